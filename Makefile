@@ -1,0 +1,13 @@
+# make run: the main job. make test: the gate. Both need only the kit's rt on the PATH.
+.PHONY: run test clean
+
+run:
+	@mkdir -p target
+	@rt check show_chunks >target/run.out 2>&1 || { cat target/run.out; exit 1; }
+	@cat target/log/show_chunks.stdout
+
+test:
+	@.ci/run
+
+clean:
+	rm -rf target

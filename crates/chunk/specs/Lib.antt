@@ -1,0 +1,6 @@
+pub mod Layout
+pub mod Header
+pub mod Part
+pub mod Marshal
+pub mod Data
+pub mod Sack

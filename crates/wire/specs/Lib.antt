@@ -1,0 +1,4 @@
+pub mod BigEndian
+pub mod Refusal
+pub mod Front
+pub mod Facts
