@@ -1,18 +1,20 @@
--- A header at the front of lent bytes: what is read of it are its fields.
+-- A header at the front of lent bytes: what is read of it are its fields; and what chunks of both types share.
 -- Assumes nothing.
-use mathlib.Core.Path.{_≡_, refl, sym, _∙_}
+use mathlib.Core.Path.{_≡_, refl, sym, ap, _∙_}
 use mathlib.Core.Bool.{Bool, true, false, _||_, true≢false}
-use mathlib.Core.List.{List, _++_}
-use Prim.Native.Nat.{ℕ, _<_, _≤_}
+use mathlib.Core.List.{List, _++_, append-assoc}
+use Prim.Native.Nat.{ℕ, _+_, _-_, _<_, _≤_}
 use native.Mathlib.Omega.{arith}
 use borrow.Author.Tests.{eq-eqb, ne-eqb, lt-ltb, le-ltb, ltb-false, eqb-true, not-false}
-use lib.ListN.{length, take, length-append}
-use lib.Seq.{take-at, take-all}
+use lib.ListN.{length, take, drop, length-append, length-drop}
+use lib.Seq.{length-take-le, take-add, drop-at}
+use denote.Ref.{RefT}
 use Rattle.wire.specs.BigEndian.{bigEndian}
 use Rattle.wire.specs.Refusal.{Check, none, refuse, first, says}
-use Rattle.wire.proofs.Reading.{Whole, shorter, refused, accepted, first-refused, first-passed, none-holds}
-use Rattle.chunk.specs.Layout.{Header, header, headerBytes}
-use Rattle.chunk.specs.Header.{HeaderFront, headerChecks, kindOnly, kindChecks, headerTold, headerRead, Headed, HeadedFront, headedBytes}
+use Rattle.wire.proofs.Reading.{Whole, whole-front, shorter, begins-with, refused, accepted, first-refused, first-passed, none-holds}
+use Rattle.chunk.specs.Layout.{Header, header, headerBytes, chunk}
+use Rattle.chunk.specs.Header.{HeaderFront, headerChecks, kindOnly, kindChecks, headerTold, headerRead, Headed, HeadedFits, HeadedFront, headedBytes}
+use Rattle.chunk.specs.Part.{Part, partOf}
 use Rattle.chunk.specs.declared.chunk_header.ChunkHeader.{ChunkHeader}
 use Rattle.chunk.specs.declared.chunk_header.Unmarshalled.{Unmarshalled}
 use Rattle.chunk.specs.declared.chunk_header.Unmarshalled.the-variants as answers
@@ -96,10 +98,63 @@ pub passed : (kind least short lent : ℕ) (h : Header) → Passed kind least le
 passed kind least short lent h p =
     rw (le-ltb lent 4 (omega (arith, p .four, p .within)), le-ltb (h .size) 4 (p .four), le-ltb lent (h .size) (p .within), eq-eqb (h .kind) kind (p .same), le-ltb (h .size) least (p .enough))
 
--- bytes that start with a header and fields, whatever follows, begin with them
-pub headed-begins : {A : Type 0} (value : A → List ℕ) (h : Headed A) (rest : List ℕ) → length (value (h .fields)) ≡ 12
-    → take 16 (headedBytes value h ++ rest) ≡ take (length (headedBytes value h ++ rest)) (headedBytes value h)
-headed-begins value h rest twelve =
-    let bytes = headedBytes value h in
-    let size : length bytes ≡ 16 = simp (length-append, header-length, twelve) in
-    take-at bytes rest 16 size ∙ sym (take-all (length (bytes ++ rest)) bytes (simp length-append (omega arith)))
+-- ── a chunk with 12 bytes of fields ──
+
+-- it is its header, its fields, and what lies behind them
+pub chunk-parts : (kind flags : ℕ) (value more : List ℕ) → length value ≡ 12 → (headerBytes (header kind flags (16 + length more)) ++ value) ++ more ≡ chunk kind flags (value ++ more)
+chunk-parts kind flags value more twelve =
+    let size : 4 + length (value ++ more) ≡ 16 + length more = rw length-append (omega arith) in
+    rw (append-assoc, size)
+
+-- what passes is, up to its length, the chunk of the fields in front and of what lies behind them
+pub headed-accepted : {A : Type 0} (value : A → List ℕ) (Fits : A → Type 0) (kind : ℕ) {raw : List ℕ} (f : HeadedFront value Fits raw) → length (value (f .fields .fields)) ≡ 12 → Passed kind 16 (length raw) (f .fields .header)
+    → take (f .fields .header .size) raw ≡ chunk kind (f .fields .header .flags) (value (f .fields .fields) ++ take (f .fields .header .size - 16) (drop 16 raw))
+headed-accepted value Fits kind {raw} f twelve p =
+    let h = f .fields .header in
+    let v = value (f .fields .fields) in
+    let more = take (h .size - 16) (drop 16 raw) in
+    let front : take 16 raw ≡ headerBytes h ++ v = whole-front (headed-whole value Fits f twelve (omega (arith, p .enough, p .within))) in
+    let long : h .size ≡ 16 + (h .size - 16) = omega (arith, p .enough) in
+    let size : length more ≡ h .size - 16 = length-take-le (h .size - 16) (drop 16 raw) (rw length-drop (omega (arith, p .within))) in
+    let head : headerBytes h ≡ headerBytes (header kind (h .flags) (16 + length more)) =
+    ap (λ (k : ℕ). headerBytes (header k (h .flags) (h .size))) (p .same) ∙ ap (λ (k : ℕ). headerBytes (header kind (h .flags) k)) (omega arith) in
+    ap (λ (k : ℕ). take k raw) long ∙ take-add 16 (h .size - 16) raw ∙ ap (λ (x : List ℕ). x ++ more) (front ∙ ap (λ (x : List ℕ). x ++ v) head) ∙ chunk-parts kind (h .flags) v more twelve
+
+-- such a chunk, whatever follows it
+module _ {A : Type 0} (value : A → List ℕ) (kind flags : ℕ) (a : A) (more rest : List ℕ) (twelve : length (value a) ≡ 12) where
+  abbrev bytes : List ℕ
+  bytes = chunk kind flags (value a ++ more) ++ rest
+
+  abbrev head : Headed A
+  head = record { header = header kind flags (16 + length more); fields = a }
+
+  sized : length (headedBytes value head) ≡ 16
+  sized = simp (length-append, header-length, twelve)
+
+  parts : bytes ≡ headedBytes value head ++ (more ++ rest)
+  parts = ap (λ (x : List ℕ). x ++ rest) (sym (chunk-parts kind flags (value a) more twelve)) ∙ append-assoc (headedBytes value head) more rest
+
+  -- it begins with its header and its fields
+  pub chunk-begins : take 16 bytes ≡ take (length bytes) (headedBytes value head)
+  chunk-begins = rw parts (begins-with (headedBytes value head) (more ++ rest) 16 sized)
+
+  -- so they are the fields in front
+  abbrev pub chunk-front : {Fits : A → Type 0} → HeadedFits Fits head → HeadedFront value Fits bytes
+  chunk-front fits = record { fields = head; fits = fits; begins = chunk-begins }
+
+  -- and the rest of it lies behind them
+  pub chunk-behind : drop 16 bytes ≡ more ++ rest
+  chunk-behind = rw parts (drop-at (headedBytes value head) (more ++ rest) 16 sized)
+
+  -- no check of its type refuses it
+  pub chunk-passes : (short : ℕ) → first (kindChecks kind 16 short (length bytes) (head .header)) ≡ none
+  chunk-passes short =
+      let long : 16 + length more ≤ length bytes = simp (length-append, header-length, twelve) (omega arith) in
+      passed kind 16 short (length bytes) (head .header) (record { same = refl; four = omega arith; enough = omega arith; within = long })
+
+-- ── a part of a chunk ──
+
+-- where nothing is refused it has the bytes that stand there
+pub part-back : (checks : ℕ → List Check) (start size : ℕ) (raw : RefT (List ℕ)) {bytes : List ℕ} {p : Part} → raw .now ≡ bytes → first (checks (length bytes)) ≡ none
+    → p ≡ partOf (first (checks (length (raw .now)))) start size raw → (p .refusal ≡ 255) × (p .bytes ≡ take size (drop start bytes))
+part-back checks start size raw e n q = let t = rw (e, n) at q in (ap (λ (x : Part). x .refusal) t, ap (λ (x : Part). x .bytes) t)

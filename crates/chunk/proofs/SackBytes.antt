@@ -81,12 +81,16 @@ pub sack-value-length : (s : Sack) → length (sackValue s) ≡ 12
 unfolding bigEndian sackValue
 sack-value-length s = refl
 
+pub lists-length : (starts ends duplicates more : List ℕ) → length starts ≡ length ends
+    → length (gapBlocks starts ends ++ (duplicateTsns duplicates ++ more)) ≡ 4 * length starts + 4 * length duplicates + length more
+lists-length starts ends duplicates more same = simp length-append (omega (arith, blocks-length starts ends same, tsns-length duplicates))
+
 module _ (cumulative window : ℕ) (starts ends duplicates : List ℕ) (same : length starts ≡ length ends) where
   abbrev fields : Sack
   fields = sack cumulative window (length starts) (length duplicates)
 
   value-size : 4 + length (sackValue fields ++ (gapBlocks starts ends ++ (duplicateTsns duplicates ++ []))) ≡ 16 + 4 * length starts + 4 * length duplicates
-  value-size = simp (length-append, sack-value-length, append-nil) (omega (arith, blocks-length starts ends same, tsns-length duplicates))
+  value-size = rw (length-append (sackValue fields), sack-value-length) (omega (arith, lists-length starts ends duplicates [] same))
 
   -- a SACK chunk has 16 bytes and 4 for each block and each duplicate
   pub sack-chunk-length : length (sackChunk 0 cumulative window starts ends duplicates []) ≡ 16 + 4 * length starts + 4 * length duplicates

@@ -132,7 +132,7 @@ fn weight(flag: bool, of: u8) -> u8
 }
 
 // The flags byte of these fields.
-fn flags_of(fields: ChunkPayloadData) -> u8
+pub fn flags_of(fields: ChunkPayloadData) -> u8
     ensures { λ r. ⌜ r ≡ dataFlags fields ⌝ }
 {
     let ending = weight(fields.ending_fragment, 1);

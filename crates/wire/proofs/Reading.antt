@@ -6,7 +6,7 @@ use mathlib.Core.List.{List, [], _∷_, _++_}
 use Prim.Native.Nat.{ℕ, _+_, _^_, _<_, _≤_}
 use native.Mathlib.Decide.{decLe}
 use native.Mathlib.Omega.{arith}
-use lib.ListN.{length, take, drop, length-drop, length-take, take-append-drop}
+use lib.ListN.{length, take, drop, length-append, length-drop, length-take, take-append-drop}
 use lib.Seq.{take-all, take-at, take-take, take-append-le, drop-append-le}
 use Rattle.wire.specs.BigEndian.{bigEndian}
 use Rattle.wire.specs.Refusal.{Refusal, none, refuse, Check, first, says, answer}
@@ -80,6 +80,10 @@ shorter raw bytes more n k h l e = go (decLe k (length raw)) (sym (take-take k n
         f ∙ take-all k (take (length raw) (bytes ++ more)) (simp length-take (omega arith))
         ∙ take-append-le (length raw) bytes more (omega arith)
 
+-- bytes begin with a layout that they start with, whatever follows
+pub begins-with : (bytes rest : List ℕ) (n : ℕ) → length bytes ≡ n → take n (bytes ++ rest) ≡ take (length (bytes ++ rest)) bytes
+begins-with bytes rest n l = take-at bytes rest n l ∙ sym (take-all (length (bytes ++ rest)) bytes (simp length-append (omega arith)))
+
 -- no check holds where none refuses
 abbrev pub NoneHolds : List Check → Type 0
 NoneHolds [] = Unit {0}
@@ -92,3 +96,12 @@ none-holds (c ∷ cs) e = go (c .holds) refl (λ f. none-holds cs f) e
     go : (b : Bool) → c .holds ≡ b → (first cs ≡ none → NoneHolds cs) → cond b (refuse (c .number)) (first cs) ≡ none → (c .holds ≡ false) × NoneHolds cs
     go true h more f = let n : _≡_ {A = ℕ} 0 1 = cc in absurd (omega arith)
     go false h more f = (h, more f)
+
+-- where checks refuse nothing, neither those in front nor those behind them do
+pub none-both : (cs ds : List Check) → first (cs ++ ds) ≡ none → (first cs ≡ none) × (first ds ≡ none)
+none-both [] ds e = (refl, e)
+none-both (c ∷ cs) ds e = go (c .holds) (λ f. none-both cs ds f) e
+  where
+    go : (b : Bool) → (first (cs ++ ds) ≡ none → (first cs ≡ none) × (first ds ≡ none)) → cond b (refuse (c .number)) (first (cs ++ ds)) ≡ none → (cond b (refuse (c .number)) (first cs) ≡ none) × (first ds ≡ none)
+    go true more f = let n : _≡_ {A = ℕ} 0 1 = cc in absurd (omega arith)
+    go false more f = more f

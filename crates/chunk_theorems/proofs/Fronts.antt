@@ -28,7 +28,12 @@ record Laid {A : Type 0} (layout : A → List ℕ) (Fits : A → Type 0) (n : �
 laid-front : {A : Type 0} {layout : A → List ℕ} {Fits : A → Type 0} {n : ℕ} (raw : List ℕ) → ((a : A) → length (layout a) ≡ n) → Laid layout Fits n (padded n raw) → Front layout Fits n raw
 laid-front {n = n} raw size l = record { fields = l .fields; fits = l .fits; begins = unpadded n raw (size (l .fields)) (l .is) }
 
--- four numbers one behind the other
+-- the bytes of four numbers one behind the other
+four-is : (raw : List ℕ) (a b c d : ℕ) (p : Piece raw a) (q : Piece (drop a raw) b) (r : Piece (drop b (drop a raw)) c) (s : Piece (drop c (drop b (drop a raw))) d)
+    → take (a + (b + (c + d))) raw ≡ bigEndian a (p .value) ++ (bigEndian b (q .value) ++ (bigEndian c (r .value) ++ bigEndian d (s .value)))
+four-is raw a b c d p q r s = cut raw a (b + (c + d)) p (cut (drop a raw) b (c + d) q (cut (drop b (drop a raw)) c d r (s .is)))
+
+-- such numbers stand in bytes that are enough
 four : (raw : List ℕ) → Bytes raw → (a b c d : ℕ) → a + (b + (c + d)) ≤ length raw
     → (p : Piece raw a) × (q : Piece (drop a raw) b) × (r : Piece (drop b (drop a raw)) c) × (s : Piece (drop c (drop b (drop a raw))) d)
     × (take (a + (b + (c + d))) raw ≡ bigEndian a (p .value) ++ (bigEndian b (q .value) ++ (bigEndian c (r .value) ++ bigEndian d (s .value))))
@@ -42,7 +47,7 @@ four raw by a b c d h =
     let q = piece (drop a raw) u b (omega arith) in
     let r = piece (drop b (drop a raw)) v c (omega arith) in
     let s = piece (drop c (drop b (drop a raw))) (bytes-drop (drop b (drop a raw)) c v) d (omega arith) in
-    (p, q, r, s, cut raw a (b + (c + d)) p (cut (drop a raw) b (c + d) q (cut (drop b (drop a raw)) c d r (s .is))))
+    (p, q, r, s, four-is raw a b c d p q r s)
 
 header-laid : (raw : List ℕ) → Bytes raw → 4 ≤ length raw → Laid headerBytes HeaderFits 4 raw
 unfolding headerBytes

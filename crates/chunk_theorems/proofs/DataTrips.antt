@@ -2,42 +2,31 @@
 -- Assumes nothing.
 use mathlib.Core.Path.{_≡_, refl, sym, ap, _∙_}
 use mathlib.Core.Bool.{Bool, true, false}
-use mathlib.Core.List.{List, _++_, append-assoc}
+use mathlib.Core.List.{List, _++_}
 use Prim.Native.Nat.{ℕ, _+_, _-_, _*_, _/_, _%_, _^_, _<_, _≤_}
 use native.Mathlib.Omega.{arith}
 use borrow.Author.Tests.{eqb-true, eqb-false}
 use lib.Dec.{eqb}
-use lib.ListN.{length, take, drop, length-append, length-drop}
-use lib.Seq.{length-take-le, take-add, take-all, take-at, drop-at}
+use lib.ListN.{length, take, drop, length-drop}
+use lib.Seq.{take-all, take-at}
 use denote.Ref.{RefT}
 use Rattle.wire.specs.Refusal.{none, says, first}
-use Rattle.wire.proofs.Reading.{whole-front}
-use Rattle.chunk.specs.Layout.{Header, header, headerBytes, Data, DataFits, dataValue, dataChunk}
-use Rattle.chunk.specs.Header.{HeaderFront, Headed, HeadedFits, headedBytes}
+use Rattle.chunk.specs.Layout.{Header, header, Data, DataFits, dataValue, dataChunk}
+use Rattle.chunk.specs.Header.{HeaderFront, Headed, HeadedFits}
 use Rattle.chunk.specs.Part.{Part}
 use Rattle.chunk.specs.Data.{identifierNumber, identifierName, flagSet, weighed, DataValues, dataShown, dataHeld, dataTold, DataFront, dataChecks, dataRead, userData, dataFlags, dataSent}
 use Rattle.chunk.specs.declared.chunk_payload_data.ChunkPayloadData.{ChunkPayloadData}
 use Rattle.chunk.specs.declared.chunk_payload_data.Unmarshalled as «data»
 use Rattle.chunk.specs.declared.chunk_payload_data.Unmarshalled.the-variants as data-is
-use Rattle.chunk.proofs.Headers.{header-length, header-front, headed-whole, headed-begins, passes, passed}
-use Rattle.chunk.proofs.DataBytes.{data-value-length, data-chunk-length, data-chunk-parts}
-use Rattle.chunk.proofs.OneAnswer.{data-told-one, name-of-number}
+use Rattle.chunk.proofs.Headers.{header-front, passes, headed-accepted, chunk-front, chunk-behind, chunk-passes, part-back}
+use Rattle.chunk.proofs.DataBytes.{data-value-length}
+use Rattle.chunk_theorems.proofs.OneAnswer.{data-told-one, name-of-number}
 
 -- ── what is accepted is a DATA chunk of the fields in front and of the user data ──
 
 pub data-accepted : (raw : List ℕ) (f : DataFront raw) → first (dataChecks (length raw) (f .fields .header)) ≡ none
     → take (f .fields .header .size) raw ≡ dataChunk (f .fields .header .flags) (f .fields .fields) (take (f .fields .header .size - 16) (drop 16 raw))
-data-accepted raw f e =
-    let h = f .fields .header in
-    let d = f .fields .fields in
-    let user = take (h .size - 16) (drop 16 raw) in
-    let p = passes 0 16 4 (length raw) h e in
-    let front : take 16 raw ≡ headerBytes h ++ dataValue d = whole-front (headed-whole dataValue DataFits f (data-value-length d) (omega (arith, p .enough, p .within))) in
-    let long : h .size ≡ 16 + (h .size - 16) = omega (arith, p .enough) in
-    let size : length user ≡ h .size - 16 = length-take-le (h .size - 16) (drop 16 raw) (rw length-drop (omega (arith, p .within))) in
-    let head : headerBytes h ≡ headerBytes (header 0 (h .flags) (16 + length user)) =
-    ap (λ (k : ℕ). headerBytes (header k (h .flags) (h .size))) (p .same) ∙ ap (λ (k : ℕ). headerBytes (header 0 (h .flags) k)) (omega arith) in
-    ap (λ (k : ℕ). take k raw) long ∙ take-add 16 (h .size - 16) raw ∙ ap (λ (x : List ℕ). x ++ user) (front ∙ ap (λ (x : List ℕ). x ++ dataValue d) head) ∙ data-chunk-parts (h .flags) d user
+data-accepted raw f e = headed-accepted dataValue DataFits 0 f (data-value-length (f .fields .fields)) (passes 0 16 4 (length raw) (f .fields .header) e)
 
 -- ── what is a DATA chunk of some fields and user data, whatever follows, is accepted with them ──
 
@@ -54,25 +43,16 @@ module _ (flags : ℕ) (d : Data) (user rest : List ℕ) (s : Sendable flags d u
   abbrev head : Headed Data
   head = record { header = header 0 flags (16 + length user); fields = d }
 
-  parts : bytes ≡ (headerBytes (head .header) ++ dataValue d) ++ (user ++ rest)
-  parts = ap (λ (x : List ℕ). x ++ rest) (sym (data-chunk-parts flags d user)) ∙ append-assoc (headerBytes (head .header) ++ dataValue d) user rest
-
-  long : 16 + length user ≤ length bytes
-  long = rw (length-append, data-chunk-length) (omega arith)
-
   pub fits : HeadedFits DataFits head
   fits = record { header = record { kind = omega arith; flags = s .flag; size = omega (arith, s .few) }; fields = s .fits }
 
-  pub begins : take 16 bytes ≡ take (length bytes) (headedBytes dataValue head)
-  begins = rw parts (headed-begins dataValue head (user ++ rest) (data-value-length d))
-
   -- the fields in front of it are its own
   abbrev pub data-front : DataFront bytes
-  data-front = record { fields = head; fits = fits; begins = begins }
+  data-front = chunk-front dataValue 0 flags d user rest (data-value-length d) fits
 
   -- nothing is refused
   pub data-passes : first (dataChecks (length bytes) (head .header)) ≡ none
-  data-passes = passed 0 16 4 (length bytes) (head .header) (record { same = refl; four = omega arith; enough = omega arith; within = long })
+  data-passes = chunk-passes dataValue 0 flags d user rest (data-value-length d) 4
 
   -- so what meets the promise of `unmarshal` has its fields
   pub data-read-back : (r : «data».Unmarshalled) → ((f : DataFront bytes) → dataTold r ≡ dataRead (length bytes) (f .fields)) → dataTold r ≡ says none (dataShown flags d)
@@ -84,14 +64,11 @@ pub user-data-back : (flags : ℕ) (d : Data) (user rest : List ℕ) → Sendabl
     → {p : Part} → ((f : HeaderFront (raw .now)) → p ≡ userData raw (f .fields)) → (p .refusal ≡ 255) × (p .bytes ≡ user)
 unfolding userData
 user-data-back flags d user rest s raw e {p} promise =
-    let h = header 0 flags (16 + length user) in
     let f = header-front dataValue DataFits (data-front flags d user rest s) in
-    let g : HeaderFront (raw .now) = record { fields = h; fits = f .fits; begins = rw e (f .begins) } in
-    let q = rw (e, data-passes flags d user rest s) at (promise g) in
+    let g : HeaderFront (raw .now) = record { fields = f .fields; fits = f .fits; begins = rw e (f .begins) } in
+    let q = part-back (λ (lent : ℕ). dataChecks lent (f .fields)) 16 (16 + length user - 16) raw e (data-passes flags d user rest s) (promise g) in
     let cut : 16 + length user - 16 ≡ length user = omega arith in
-    let all : take (length user) (drop 16 (dataChunk flags d user ++ rest)) ≡ user =
-    rw (parts flags d user rest s) (ap (take (length user)) (drop-at (headerBytes h ++ dataValue d) (user ++ rest) 16 (simp (length-append, header-length, data-value-length))) ∙ take-at user rest (length user) refl) in
-    (ap (λ (x : Part). x .refusal) q, ap (λ (x : Part). x .bytes) q ∙ rw (cut, all))
+    (q .0, q .1 ∙ rw (cut, chunk-behind dataValue 0 flags d user rest (data-value-length d)) (take-at user rest (length user) refl))
 
 -- ── reading what was written gives the fields ──
 

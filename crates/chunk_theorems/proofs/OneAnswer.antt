@@ -7,28 +7,28 @@ use lib.ListN.{length}
 use denote.Ref.{RefT}
 use Rattle.wire.specs.Refusal.{Refusal, none, refuse, Told, Written, written}
 use Rattle.wire.proofs.Exists.{Bytes}
 use Rattle.chunk.specs.Layout.{Header, Sack, Block}
 use Rattle.chunk.specs.Header.{HeaderFront, headerChecks, headerTold, headerRead}
 use Rattle.chunk.specs.Part.{Part}
 use Rattle.chunk.specs.Data.{identifierNumber, identifierName, DataValues, dataHeld, dataTold, DataFront, dataRead, userData}
 use Rattle.chunk.specs.Sack.{sackHeld, sackTold, SackFront, sackRead, blocksPart, duplicatesPart, BlockFront, blockTold, blockRead, TsnFront, tsnTold, tsnRead}
 use Rattle.chunk.specs.Marshal.{marshalTold}
 use Rattle.chunk.specs.declared.chunk_header.Unmarshalled as head
 use Rattle.chunk.specs.declared.chunk_header.Unmarshalled.the-variants as head-is
 use Rattle.chunk.specs.declared.chunk_payload_data.ChunkPayloadData.{ChunkPayloadData}
 use Rattle.chunk.specs.declared.chunk_payload_data.PayloadProtocolIdentifier.{PayloadProtocolIdentifier}
 use Rattle.chunk.specs.declared.chunk_payload_data.PayloadProtocolIdentifier.the-variants.{Dcep, String, Binary, StringEmpty, BinaryEmpty, Unknown}
 use Rattle.chunk.specs.declared.chunk_payload_data.Unmarshalled as «data»
 use Rattle.chunk.specs.declared.chunk_payload_data.Unmarshalled.the-variants as data-is
 use Rattle.chunk.specs.declared.chunk_selective_ack.Unmarshalled as sack
 use Rattle.chunk.specs.declared.chunk_selective_ack.Unmarshalled.the-variants as sack-is
 use Rattle.chunk.specs.declared.chunk_selective_ack.GapAckBlockAt as block
 use Rattle.chunk.specs.declared.chunk_selective_ack.GapAckBlockAt.the-variants as block-is
 use Rattle.chunk.specs.declared.chunk_selective_ack.DuplicateTsnAt as tsn
 use Rattle.chunk.specs.declared.chunk_selective_ack.DuplicateTsnAt.the-variants as tsn-is
 use Rattle.chunk.specs.declared.Marshalled.{Marshalled}
 use Rattle.chunk.specs.declared.Marshalled.the-variants as bytes-is
-use Rattle.chunk.proofs.Fronts.{header-some, data-some, sack-some, block-some, tsn-some}
+use Rattle.chunk_theorems.proofs.Fronts.{header-some, data-some, sack-some, block-some, tsn-some}
 
 -- the general lemma: a promise that fixes what an answer tells fixes the answer, if what it tells can be taken back
 pub one-answer : {A B : Type 0} (tells : A → B) (back : B → A) → ((a : A) → back (tells a) ≡ a) → {r s : A} {b : B} → tells r ≡ b → tells s ≡ b → r ≡ s
@@ -97,6 +97,9 @@ sack-inverse : (r : sack.Unmarshalled) → sack-back (sackTold r) ≡ r
 unfolding sack-back sackHeld
 sack-inverse (sack-is.Fields s) = refl
 sack-inverse (sack-is.Refused k) = refl
+
+pub sack-told-one : {r s : sack.Unmarshalled} → sackTold r ≡ sackTold s → r ≡ s
+sack-told-one e = one-answer sackTold sack-back sack-inverse e refl
 
 block-back : Told Block → block.GapAckBlockAt
 block-back t = go (t .refusal)

@@ -1,0 +1,5 @@
+pub mod Fronts
+pub mod OneAnswer
+pub mod DataTrips
+pub mod SackTrips
+pub mod Sheet
