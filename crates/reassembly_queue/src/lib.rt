@@ -1,0 +1,2 @@
+// Fragments to messages. So far: the message in hand.
+pub mod chunks;
