@@ -1,0 +1,5 @@
+pub mod Laws
+pub mod Walk
+pub mod Unique
+pub mod Sheet
+pub mod Runs

@@ -1,0 +1,189 @@
+// Rows of a lent table of words, column after column: heads, TSNs, ids, payload identifiers, `size` words each.
+// Column by column, because the passes over all TSNs and all lengths that every call needs are then vector code.
+ghost use mathlib.Core.Path.{_≡_};
+ghost use mathlib.Core.List.{[], _∷_};
+ghost use Prim.Native.Nat.{_+_, _*_, _%_, _≤_, _<_};
+ghost use lib.ListN.{length, take, drop, getD, set};
+ghost use Rattle.wire.specs.BigEndian.{over};
+ghost use Rattle.serial.specs.Serial.{before};
+ghost use Rattle.table.specs.Lists.{put, gone, turned};
+ghost use Rattle.table.specs.Rows.{row, blank, rowsOf, total, some, upToLast, aheadOf, hasTsn, hasStream, tsnBefore, shortLength};
+
+pub mod bytes;
+mod words;
+
+// One record: flags and data length, TSN, stream and SSN, payload identifier.
+pub struct Row {
+    pub head: u32,
+    pub tsn: u32,
+    pub id: u32,
+    pub ppi: u32,
+}
+
+// The row at an index.
+pub fn row_at(table: &[u32], size: usize, i: usize) -> Row
+    requires { ⌜ length (now table) ≡ 4 * size ⌝ }
+    requires { ⌜ i < size ⌝ }
+    ensures { λ r. ⌜ r ≡ getD (rowsOf size (now (table .entry))) i blank ⌝ }
+{
+    let ids = 2 * size;
+    let ppis = 3 * size;
+    Row {
+        head: table[i],
+        tsn: table[size + i],
+        id: table[ids + i],
+        ppi: table[ppis + i],
+    }
+}
+
+// A data length of 16 bits, in the low half of a head.
+fn short_length(head: u32) -> usize
+    ensures { λ r. ⌜ r ≡ shortLength head ⌝ }
+{
+    (head % 65536) as usize
+}
+
+// The sum of the data lengths, of 16 bits each, of the n rows from one on.
+pub fn sum_short(table: &[u32], size: usize, from: usize, n: usize) -> usize
+    requires { ⌜ size ≤ 65536 ⌝ }
+    requires { ⌜ length (now table) ≡ 4 * size ⌝ }
+    requires { ⌜ from + n ≤ size ⌝ }
+    ensures { λ r. ⌜ r ≡ total shortLength (take n (drop from (rowsOf size (now (table .entry))))) ⌝ }
+{
+    let mut sum: usize = 0;
+    let mut i: usize = 0;
+    while i < n {
+        sum += short_length(table[from + i]);
+        i += 1;
+    }
+    sum
+}
+
+// Whether a TSN is held by one of the n rows from one on: a pass over all of them.
+pub fn has_tsn(table: &[u32], size: usize, from: usize, n: usize, tsn: u32) -> bool
+    requires { ⌜ length (now table) ≡ 4 * size ⌝ }
+    requires { ⌜ from + n ≤ size ⌝ }
+    ensures { λ r. ⌜ r ≡ some (hasTsn tsn) (take n (drop from (rowsOf size (now (table .entry))))) ⌝ }
+{
+    let tsns = size + from;
+    let mut found = false;
+    let mut i: usize = 0;
+    while i < n {
+        found = found | (table[tsns + i] == tsn);
+        i += 1;
+    }
+    found
+}
+
+// Whether a stream is that of one of the n rows from one on.
+pub fn has_stream(table: &[u32], size: usize, from: usize, n: usize, stream: u16) -> bool
+    requires { ⌜ length (now table) ≡ 4 * size ⌝ }
+    requires { ⌜ from + n ≤ size ⌝ }
+    ensures { λ r. ⌜ r ≡ some (hasStream stream) (take n (drop from (rowsOf size (now (table .entry))))) ⌝ }
+{
+    let wanted = stream as u32;
+    let ids = 2 * size + from;
+    let mut found = false;
+    let mut i: usize = 0;
+    while i < n {
+        found = found | (table[ids + i] / 65536 == wanted);
+        i += 1;
+    }
+    found
+}
+
+// How many of the n rows from one on stand ahead of the first with this TSN; n where none has it.
+pub fn find_tsn(table: &[u32], size: usize, from: usize, n: usize, tsn: u32) -> usize
+    requires { ⌜ length (now table) ≡ 4 * size ⌝ }
+    requires { ⌜ from + n ≤ size ⌝ }
+    ensures { λ r. ⌜ r ≡ aheadOf (hasTsn tsn) (take n (drop from (rowsOf size (now (table .entry))))) ⌝ }
+{
+    let tsns = size + from;
+    let mut i: usize = 0;
+    while i < n {
+        if table[tsns + i] == tsn {
+            return i;
+        }
+        i += 1;
+    }
+    i
+}
+
+// The place of a new TSN among the n rows from one on: right after the last one that is before it, or first.
+pub fn place_tsn(table: &[u32], size: usize, from: usize, n: usize, tsn: u32) -> usize
+    requires { ⌜ length (now table) ≡ 4 * size ⌝ }
+    requires { ⌜ from + n ≤ size ⌝ }
+    ensures { λ r. ⌜ r ≡ upToLast (tsnBefore tsn) (take n (drop from (rowsOf size (now (table .entry))))) ⌝ }
+{
+    let tsns = size + from;
+    let mut place: usize = 0;
+    let mut i: usize = 0;
+    while i < n {
+        let held = table[tsns + i];
+        i += 1;
+        if serial::sna32lt(held, tsn) {
+            place = i;
+        }
+    }
+    place
+}
+
+// One row put in at index at of the first n.
+pub fn put_row(table: &mut [u32], size: usize, n: usize, at: usize, new: Row)
+    requires { ⌜ length (now table) ≡ 4 * size ⌝ }
+    requires { ⌜ n < size ⌝ }
+    requires { ⌜ at ≤ n ⌝ }
+    ensures { λ _. ⌜ rowsOf size (now (table .exit)) ≡ over (rowsOf size (now (table .entry))) (put at (new ∷ []) (take n (rowsOf size (now (table .entry))))) ⌝ }
+{
+    let ids = 2 * size;
+    let ppis = 3 * size;
+    words::put_word(table, n, at, new.head);
+    words::put_word(table, size + n, size + at, new.tsn);
+    words::put_word(table, ids + n, ids + at, new.id);
+    words::put_word(table, ppis + n, ppis + at, new.ppi);
+}
+
+// The k rows at index at taken out of the first n.
+pub fn close_rows(table: &mut [u32], size: usize, n: usize, at: usize, k: usize)
+    requires { ⌜ length (now table) ≡ 4 * size ⌝ }
+    requires { ⌜ n ≤ size ⌝ }
+    requires { ⌜ at + k ≤ n ⌝ }
+    ensures { λ _. ⌜ rowsOf size (now (table .exit)) ≡ over (rowsOf size (now (table .entry))) (gone at k (take n (rowsOf size (now (table .entry))))) ⌝ }
+{
+    let ids = 2 * size;
+    let ppis = 3 * size;
+    words::close_words(table, n, at, k);
+    words::close_words(table, size + n, size + at, k);
+    words::close_words(table, ids + n, ids + at, k);
+    words::close_words(table, ppis + n, ppis + at, k);
+}
+
+// One row written over that at an index.
+pub fn set_row(table: &mut [u32], size: usize, at: usize, new: Row)
+    requires { ⌜ length (now table) ≡ 4 * size ⌝ }
+    requires { ⌜ at < size ⌝ }
+    ensures { λ _. ⌜ rowsOf size (now (table .exit)) ≡ set (rowsOf size (now (table .entry))) at new ⌝ }
+{
+    let ids = 2 * size;
+    let ppis = 3 * size;
+    table[at] = new.head;
+    table[size + at] = new.tsn;
+    table[ids + at] = new.id;
+    table[ppis + at] = new.ppi;
+}
+
+// The rows from b up to e moved in front of those from a up to b.
+pub fn turn_rows(table: &mut [u32], size: usize, a: usize, b: usize, e: usize)
+    requires { ⌜ length (now table) ≡ 4 * size ⌝ }
+    requires { ⌜ a ≤ b ⌝ }
+    requires { ⌜ b ≤ e ⌝ }
+    requires { ⌜ e ≤ size ⌝ }
+    ensures { λ _. ⌜ rowsOf size (now (table .exit)) ≡ turned a b e (rowsOf size (now (table .entry))) ⌝ }
+{
+    let ids = 2 * size;
+    let ppis = 3 * size;
+    words::turn_words(table, a, b, e);
+    words::turn_words(table, size + a, size + b, size + e);
+    words::turn_words(table, ids + a, ids + b, ids + e);
+    words::turn_words(table, ppis + a, ppis + b, ppis + e);
+}
