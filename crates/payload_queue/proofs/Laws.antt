@@ -1,22 +1,22 @@
 -- What a sound queue has, and what the calls make of it: the laws that the calls' proofs cite.
 -- Assumes nothing.
 use mathlib.Core.Path.{_≡_, refl, sym, ap, _∙_}
-use mathlib.Core.Bool.{Bool, true, false, not, _||_, cond, or-false, true≢false}
+use mathlib.Core.Bool.{Bool, true, false, _||_, cond, or-false, true≢false}
 use mathlib.Core.List.{List, [], _∷_, _++_, append-nil}
-use Prim.Native.Nat.{ℕ, zero, suc, _+_, _-_, _*_, _%_, _<_, _≤_}
+use Prim.Native.Nat.{ℕ, zero, suc, _+_, _-_, _*_, _<_, _≤_}
 use native.Mathlib.Decide.{decLe}
 use native.Mathlib.Nat.{mod-lt}
 use native.Mathlib.Numerals.{add-one}
 use native.Mathlib.Omega.{arith}
-use lib.Dec.{ltb, eqb}
+use lib.Dec.{ltb}
 use lib.ListN.{length, getD, take, drop, set, length-append, length-take, length-drop, getD-replicate, List·getD-eq-default}
-use lib.Seq.{length-take-le, take-all, set-getD, take-suc, getD-drop, getD-take, getD-append-add, take-at}
-use borrow.Author.Tests.{ltb-true, ltb-false, eqb-true, not-false, lt-ltb, le-ltb, eq-eqb, ne-eqb}
+use lib.Seq.{length-take-le, take-all, set-getD, take-suc, getD-drop, getD-append-add, take-at}
+use borrow.Author.Tests.{ltb-false, eqb-true, not-false}
 use Rattle.wire.specs.BigEndian.{over}
 use Rattle.wire.specs.Facts.{over-snoc}
 use Rattle.chunk.specs.declared.chunk_payload_data.ChunkPayloadData.{ChunkPayloadData}
 use Rattle.table.specs.Lists.{gone}
-use Rattle.table.specs.Rows.{blank, rowsOf, total, some, upToLast, aheadOf, kept, shortLength, hasTsn}
+use Rattle.table.specs.Rows.{blank, total, some, kept, shortLength}
 use Rattle.table.specs.declared.Row.{Row}
 use Rattle.payload_queue.specs.Limits.{tsnsMost, logMost}
 use Rattle.payload_queue.specs.Queue.{Queue, held, unsound, rowOf, left, zeros}
@@ -50,34 +50,7 @@ sound q e =
 
 -- ── passes ──
 
-ltb-suc : (a b : ℕ) → ltb (suc a) (suc b) ≡ ltb a b
-ltb-suc a b = go (ltb a b) refl
-  where
-    go : (t : Bool) → ltb a b ≡ t → ltb (suc a) (suc b) ≡ t
-    go true e = let h = ltb-true a b e in lt-ltb (suc a) (suc b) (omega arith)
-    go false e = let h = ltb-false a b e in le-ltb (suc a) (suc b) (omega arith)
-
 module _ (p : Row → Bool) where
-  pub place-within : (rs : List Row) → upToLast p rs ≤ length rs
-  unfolding upToLast
-  place-within [] = omega arith
-  place-within (r ∷ rs) = go (some p rs) (p r) (place-within rs)
-    where
-      go : (a b : Bool) → upToLast p rs ≤ length rs → cond a (suc (upToLast p rs)) (cond b 1 0) ≤ suc (length rs)
-      go true b h = omega arith
-      go false true h = omega arith
-      go false false h = omega arith
-
-  -- none is ahead of all, exactly if one does
-  pub ahead-some : (rs : List Row) → some p rs ≡ ltb (aheadOf p rs) (length rs)
-  unfolding some aheadOf
-  ahead-some [] = refl
-  ahead-some (r ∷ rs) = go (p r) (ahead-some rs)
-    where
-      go : (b : Bool) → some p rs ≡ ltb (aheadOf p rs) (length rs) → b || some p rs ≡ ltb (cond b 0 (suc (aheadOf p rs))) (suc (length rs))
-      go true e = sym (lt-ltb 0 (suc (length rs)) (omega arith))
-      go false e = e ∙ sym (ltb-suc (aheadOf p rs) (length rs))
-
   pub kept-within : (rs : List Row) → length (kept p rs) ≤ length rs
   unfolding kept
   kept-within [] = omega arith

@@ -60,12 +60,12 @@ fields (h ∷ hs) (t ∷ ts) (i ∷ is) (p ∷ ps) a b c =
 -- ── a field of changed rows is the field's column, changed ──
 
 module _ {A B : Type 0} (f : A → B) where
-  map-take : (n : ℕ) (xs : List A) → map f (take n xs) ≡ take n (map f xs)
+  pub map-take : (n : ℕ) (xs : List A) → map f (take n xs) ≡ take n (map f xs)
   map-take zero xs = refl
   map-take (suc n) [] = refl
   map-take (suc n) (x ∷ xs) = ap (λ (l : List B). f x ∷ l) (map-take n xs)
 
-  map-drop : (n : ℕ) (xs : List A) → map f (drop n xs) ≡ drop n (map f xs)
+  pub map-drop : (n : ℕ) (xs : List A) → map f (drop n xs) ≡ drop n (map f xs)
   map-drop zero xs = refl
   map-drop (suc n) [] = refl
   map-drop (suc n) (x ∷ xs) = map-drop n xs
@@ -82,7 +82,7 @@ module _ {A B : Type 0} (f : A → B) where
   unfolding gone
   map-gone at k n xs = map-over xs (gone at k (take n xs)) ∙ simp (map-append, map-take, map-drop)
 
-  map-turned : (a b c : ℕ) (xs : List A) → map f (turned a b c xs) ≡ turned a b c (map f xs)
+  pub map-turned : (a b c : ℕ) (xs : List A) → map f (turned a b c xs) ≡ turned a b c (map f xs)
   unfolding turned slice
   map-turned a b c xs = simp (map-append, map-take, map-drop)
 

@@ -6,9 +6,11 @@ use mathlib.Core.List.{List, [], _∷_, _++_, map}
 use Prim.Native.Nat.{ℕ, suc, _+_, _*_, _<_, _≤_}
 use native.Mathlib.Numerals.{add-one}
 use native.Mathlib.Omega.{arith}
+use lib.Dec.{ltb}
+use borrow.Author.Tests.{ltb-true, ltb-false, lt-ltb, le-ltb}
 use lib.ListN.{length, getD, take, drop, length-drop, drop-of-length-le, List·getD-map}
 use lib.Seq.{take-suc, drop-cons, getD-drop, getD-take, length-take-le}
-use Rattle.table.specs.Rows.{row, blank, rowsOf, total, some, upToLast, aheadOf, kept}
+use Rattle.table.specs.Rows.{blank, rowsOf, total, some, upToLast, aheadOf}
 use Rattle.table.specs.declared.Row.{Row}
 use Rattle.table.proofs.Columns.{columns}
 
@@ -54,6 +56,45 @@ module _ (p : Row → Bool) where
   pub ahead-none : aheadOf p [] ≡ 0
   unfolding aheadOf
   ahead-none = refl
+
+-- ── bounds of what the passes find ──
+
+ltb-suc : (a b : ℕ) → ltb (suc a) (suc b) ≡ ltb a b
+ltb-suc a b = go (ltb a b) refl
+  where
+    go : (t : Bool) → ltb a b ≡ t → ltb (suc a) (suc b) ≡ t
+    go true e = let h = ltb-true a b e in lt-ltb (suc a) (suc b) (omega arith)
+    go false e = let h = ltb-false a b e in le-ltb (suc a) (suc b) (omega arith)
+
+module _ (p : Row → Bool) where
+  pub ahead-within : (rs : List Row) → aheadOf p rs ≤ length rs
+  unfolding aheadOf
+  ahead-within [] = omega arith
+  ahead-within (r ∷ rs) = go (p r) (ahead-within rs)
+    where
+      go : (b : Bool) → aheadOf p rs ≤ length rs → cond b 0 (suc (aheadOf p rs)) ≤ suc (length rs)
+      go true h = omega arith
+      go false h = omega arith
+
+  pub last-within : (rs : List Row) → upToLast p rs ≤ length rs
+  unfolding upToLast
+  last-within [] = omega arith
+  last-within (r ∷ rs) = go (some p rs) (p r) (last-within rs)
+    where
+      go : (a b : Bool) → upToLast p rs ≤ length rs → cond a (suc (upToLast p rs)) (cond b 1 0) ≤ suc (length rs)
+      go true b h = omega arith
+      go false true h = omega arith
+      go false false h = omega arith
+
+  -- not all are ahead, exactly if one does
+  pub some-ahead : (rs : List Row) → some p rs ≡ ltb (aheadOf p rs) (length rs)
+  unfolding some aheadOf
+  some-ahead [] = refl
+  some-ahead (r ∷ rs) = go (p r) (some-ahead rs)
+    where
+      go : (b : Bool) → some p rs ≡ ltb (aheadOf p rs) (length rs) → b || some p rs ≡ ltb (cond b 0 (suc (aheadOf p rs))) (suc (length rs))
+      go true e = sym (lt-ltb 0 (suc (length rs)) (omega arith))
+      go false e = e ∙ sym (ltb-suc (aheadOf p rs) (length rs))
 
 -- ── the search: the rows ahead are those passed and those ahead in the rest ──
 

@@ -12,7 +12,8 @@ use Rattle.table.specs.Rows.{blank, rowsOf, hasTsn, aheadOf, some}
 use Rattle.table.proofs.Columns.{rows-long}
 use Rattle.payload_queue.specs.Limits.{tsnsMost}
 use Rattle.payload_queue.specs.Queue.{Queue, queueOf, held, got}
-use Rattle.payload_queue.proofs.Laws.{Sound, sound, ahead-some}
+use Rattle.payload_queue.proofs.Laws.{Sound, sound}
+use Rattle.table.proofs.Scans.{some-ahead}
 use Rattle.payload_queue.proofs.PayloadQueue.get.Statement.{statement}
 use Rattle.payload_queue.proofs.PayloadQueue.get.Tie as tie
 
@@ -39,7 +40,7 @@ nothing c =
     let e = f .before .before in
     let p = hasTsn (e .before .before .before .args .tsn) in
     let all : length (held (of e)) ≤ aheadOf p (held (of e)) = omega (arith, held-long e, f .find-tsn .ensures) in
-    let none : some p (held (of e)) ≡ false = ahead-some p (held (of e)) ∙ le-ltb _ _ all in
+    let none : some p (held (of e)) ≡ false = some-ahead p (held (of e)) ∙ le-ltb _ _ all in
     rw (sym (e .before .unsound .ensures) ∙ e .if1 .left, none)
 
 given : tie.Need-returns-3
@@ -53,7 +54,7 @@ given c =
     let at : f .find-tsn .result ≡ aheadOf p (held (of e)) = f .find-tsn .ensures in
     let in-held : aheadOf p (held (of e)) < of e .count = omega (arith, at, n .if2 .left) in
     let few : aheadOf p (held (of e)) < length (held (of e)) = omega (arith, held-long e) in
-    let one : some p (held (of e)) ≡ true = ahead-some p (held (of e)) ∙ lt-ltb _ _ few in
+    let one : some p (held (of e)) ≡ true = some-ahead p (held (of e)) ∙ lt-ltb _ _ few in
     rw (sym (e .before .unsound .ensures) ∙ e .if1 .left, one, c .chunk-of .ensures, r .row-at .ensures, at, getD-take (of e .count) (of e .rows) (aheadOf p (held (of e))) blank in-held)
 
 pub get-spec : {M : Type 1} → statement M

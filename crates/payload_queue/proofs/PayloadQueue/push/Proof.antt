@@ -13,7 +13,8 @@ use Rattle.table.specs.declared.Row.{Row}
 use Rattle.table.proofs.Columns.{rows-long}
 use Rattle.payload_queue.specs.Limits.{tsnsMost}
 use Rattle.payload_queue.specs.Queue.{Queue, queueOf, held, after, rowOf, turnedAway, stored, pushed}
-use Rattle.payload_queue.proofs.Laws.{Sound, sound, place-within, row-size}
+use Rattle.payload_queue.proofs.Laws.{Sound, sound, row-size}
+use Rattle.table.proofs.Scans.{last-within}
 use Rattle.payload_queue.proofs.PayloadQueue.push.Statement.{statement}
 use Rattle.payload_queue.proofs.PayloadQueue.push.Tie as tie
 
@@ -94,7 +95,7 @@ fits c κs =
     let f = p .before .before .before in
     let e = tested f in
     let r = f .before .before .before .before .before .before .before in
-    let within = place-within (tsnBefore (r .row-of .result .tsn)) (held (of e)) in
+    let within = last-within (tsnBefore (r .row-of .result .tsn)) (held (of e)) in
     let long : length (held (of e)) ≤ of e .count = simp length-take (omega arith) in
     (omega arith, (f .if4 .left, omega (arith, p .place-tsn .ensures)))
 

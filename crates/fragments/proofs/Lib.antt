@@ -1,0 +1,6 @@
+pub mod Complete
+pub mod Pool
+pub mod Words
+pub mod Seen
+pub mod Run
+pub mod Scan

@@ -1,0 +1,104 @@
+// Passes over the records of ordered sets: `from` and n are a segment of the table's rows.
+ghost use mathlib.Core.Path.{_≡_};
+ghost use mathlib.Core.List.{map};
+ghost use Prim.Native.Nat.{_+_, _*_, _≤_};
+ghost use lib.ListN.{length, take, drop};
+ghost use Rattle.table.specs.Rows.{rowsOf, aheadOf, upToLast};
+ghost use Rattle.fragments.specs.Frag.{bare, ofRow, hasSsn, ssnBefore, ends};
+ghost use Rattle.fragments.specs.Sets.{otherSsn, complete};
+
+// How many rows stand ahead of the first with this SSN; n where none has it.
+pub fn find_ssn(table: &[u32], size: usize, from: usize, n: usize, ssn: u16) -> usize
+    requires { ⌜ length (now table) ≡ 4 * size ⌝ }
+    requires { ⌜ from + n ≤ size ⌝ }
+    ensures { λ r. ⌜ r ≡ aheadOf (ofRow (hasSsn ssn)) (take n (drop from (rowsOf size (now (table .entry))))) ⌝ }
+{
+    let wanted = ssn as u32;
+    let ids = 2 * size + from;
+    let mut i: usize = 0;
+    while i < n {
+        if table[ids + i] % 65536 == wanted {
+            return i;
+        }
+        i += 1;
+    }
+    i
+}
+
+// How many rows stand ahead of the first with another SSN; n where all have this one.
+pub fn run_ssn(table: &[u32], size: usize, from: usize, n: usize, ssn: u16) -> usize
+    requires { ⌜ length (now table) ≡ 4 * size ⌝ }
+    requires { ⌜ from + n ≤ size ⌝ }
+    ensures { λ r. ⌜ r ≡ aheadOf (ofRow (otherSsn ssn)) (take n (drop from (rowsOf size (now (table .entry))))) ⌝ }
+{
+    let wanted = ssn as u32;
+    let ids = 2 * size + from;
+    let mut i: usize = 0;
+    while i < n {
+        if table[ids + i] % 65536 != wanted {
+            return i;
+        }
+        i += 1;
+    }
+    i
+}
+
+// The place of a new SSN: right after the last row whose SSN is before it, or first.
+pub fn place_ssn(table: &[u32], size: usize, from: usize, n: usize, ssn: u16) -> usize
+    requires { ⌜ length (now table) ≡ 4 * size ⌝ }
+    requires { ⌜ from + n ≤ size ⌝ }
+    ensures { λ r. ⌜ r ≡ upToLast (ofRow (ssnBefore ssn)) (take n (drop from (rowsOf size (now (table .entry))))) ⌝ }
+{
+    let ids = 2 * size + from;
+    let mut place: usize = 0;
+    let mut i: usize = 0;
+    while i < n {
+        let held = (table[ids + i] % 65536) as u16;
+        i += 1;
+        if serial::sna16lt(held, ssn) {
+            place = i;
+        }
+    }
+    place
+}
+
+// How many rows stand ahead of the first with mark E; n where none has it.
+pub fn find_end(table: &[u32], size: usize, from: usize, n: usize) -> usize
+    requires { ⌜ length (now table) ≡ 4 * size ⌝ }
+    requires { ⌜ from + n ≤ size ⌝ }
+    ensures { λ r. ⌜ r ≡ aheadOf (ofRow ends) (take n (drop from (rowsOf size (now (table .entry))))) ⌝ }
+{
+    let mut i: usize = 0;
+    while i < n {
+        if table[from + i] / 16777216 % 2 == 1 {
+            return i;
+        }
+        i += 1;
+    }
+    i
+}
+
+// Whether the rows are a whole message: the first is B, the last is E, and TSNs rise by 1.
+pub fn is_complete(table: &[u32], size: usize, from: usize, n: usize) -> bool
+    requires { ⌜ length (now table) ≡ 4 * size ⌝ }
+    requires { ⌜ from + n ≤ size ⌝ }
+    ensures { λ r. ⌜ r ≡ complete (map bare (take n (drop from (rowsOf size (now (table .entry)))))) ⌝ }
+{
+    if n == 0 {
+        return false;
+    }
+    if table[from] / 16777216 / 2 % 2 != 1 {
+        return false;
+    }
+    let tsns = size + from;
+    let end = n - 1;
+    let mut i: usize = 0;
+    while i < end {
+        let next = serial::tsn_next(table[tsns + i]);
+        i += 1;
+        if table[tsns + i] != next {
+            return false;
+        }
+    }
+    table[from + end] / 16777216 % 2 == 1
+}
