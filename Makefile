@@ -3,8 +3,8 @@
 
 run:
 	@mkdir -p target
-	@rt check show_chunks >target/run.out 2>&1 || { cat target/run.out; exit 1; }
-	@cat target/log/show_chunks.stdout
+	@rt check receive_image >target/run.out 2>&1 || { cat target/run.out; exit 1; }
+	@cat target/log/receive_image.stdout
 
 test:
 	@.ci/run

@@ -143,7 +143,7 @@ module _ (f : Frag) (rs : List Row) (pool : List ℕ) where
   abbrev new : List Frag
   new = joins (setOf s (cut rs pool)) f ∷ []
 
-  grown-cut : grownSet f (cut rs pool) ≡ put k new (setOf s (cut rs pool))
+  pub grown-cut : grownSet f (cut rs pool) ≡ put k new (setOf s (cut rs pool))
   unfolding grownSet
   grown-cut =
       let behind = drop (total longLength (take (aheadOfSet s rs) rs)) pool in

@@ -1,2 +1,5 @@
-pub mod Message
-pub mod Pieces
+pub mod Limits
+pub mod Model
+pub mod State
+pub mod Rows
+pub mod Answers

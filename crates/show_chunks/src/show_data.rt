@@ -1,5 +1,5 @@
 // A DATA chunk, field by field.
-use crate::print;
+use crate::outcome;
 use chunk::Marshalled;
 use chunk::chunk_payload_data;
 use chunk::chunk_payload_data::ChunkPayloadData;
@@ -12,7 +12,7 @@ pub fn show(title: &[u8], raw: &[u8]) {
     print::bytes_line(b"  read                ", raw);
     let answer = chunk_payload_data::unmarshal(raw);
     match answer {
-        Unmarshalled::Refused(k) => print::refused(k),
+        Unmarshalled::Refused(k) => outcome::refused(k),
         Unmarshalled::Fields(f) => {
             let mut refusal: u8 = 0;
             let user = chunk_payload_data::user_data(raw, &mut refusal);
@@ -64,7 +64,7 @@ fn write_again(raw: &[u8], f: ChunkPayloadData, user: &[u8]) {
     let mut out = [0u8; 65535];
     let answer = chunk_payload_data::marshal_to(&mut out, f, user);
     match answer {
-        Marshalled::Refused(k) => print::refused(k),
-        Marshalled::Bytes(n) => print::written(raw, print::first(&out, n)),
+        Marshalled::Refused(k) => outcome::refused(k),
+        Marshalled::Bytes(n) => outcome::written(raw, print::first(&out, n)),
     }
 }

@@ -1,5 +1,5 @@
 // A SACK chunk, field by field, and its two lists.
-use crate::print;
+use crate::outcome;
 use chunk::Marshalled;
 use chunk::chunk_selective_ack;
 use chunk::chunk_selective_ack::ChunkSelectiveAck;
@@ -17,7 +17,7 @@ pub fn show(title: &[u8], raw: &[u8]) {
     print::bytes_line(b"  read                ", raw);
     let answer = chunk_selective_ack::unmarshal(raw);
     match answer {
-        Unmarshalled::Refused(k) => print::refused(k),
+        Unmarshalled::Refused(k) => outcome::refused(k),
         Unmarshalled::Fields(f) => {
             let mut refusal: u8 = 0;
             let blocks = chunk_selective_ack::gap_ack_blocks(raw, &mut refusal);
@@ -41,7 +41,7 @@ fn show_blocks(part: &[u8]) {
     while i < part.len() / 4 {
         let answer = chunk_selective_ack::gap_ack_block_at(part, i);
         match answer {
-            GapAckBlockAt::Refused(k) => print::refused(k),
+            GapAckBlockAt::Refused(k) => outcome::refused(k),
             GapAckBlockAt::Block(b) => show_block(b),
         }
         i += 1;
@@ -61,7 +61,7 @@ fn show_tsns(part: &[u8]) {
     while i < part.len() / 4 {
         let answer = chunk_selective_ack::duplicate_tsn_at(part, i);
         match answer {
-            DuplicateTsnAt::Refused(k) => print::refused(k),
+            DuplicateTsnAt::Refused(k) => outcome::refused(k),
             DuplicateTsnAt::Tsn(tsn) => print::number_line(b"    TSN               ", tsn as u64),
         }
         i += 1;
@@ -85,8 +85,8 @@ fn write_again(raw: &[u8], f: ChunkSelectiveAck, blocks: &[u8], tsns: &[u8]) {
         first_u32(&duplicates, x),
     );
     match answer {
-        Marshalled::Refused(k) => print::refused(k),
-        Marshalled::Bytes(size) => print::written(raw, print::first(&out, size)),
+        Marshalled::Refused(k) => outcome::refused(k),
+        Marshalled::Bytes(size) => outcome::written(raw, print::first(&out, size)),
     }
 }
 

@@ -1,0 +1,141 @@
+// The message in hand: its bytes stand at the front of a lent buffer, and a record says how many they are and how far a piece reader has come.
+ghost use mathlib.Core.Path.{_≡_};
+ghost use Prim.Native.Nat.{_≤_, min};
+ghost use lib.ListN.{length, take};
+ghost use Rattle.wire.specs.BigEndian.{over};
+ghost use Rattle.wire.specs.Refusal.{written};
+ghost use Rattle.chunks.specs.Message.{numberTold, flagTold, pieceTold, unsound, size, isEmpty, wholeRead, after, finished, moved, nextPiece};
+use chunk::chunk_payload_data::PayloadProtocolIdentifier;
+
+// A message: its SSN (0 where it is unordered), its payload identifier, its number of bytes, the place of the next piece, and whether an
+// empty message's one piece was given.
+pub struct Chunks {
+    pub ssn: u16,
+    pub ppi: PayloadProtocolIdentifier,
+    pub size: usize,
+    pub position: usize,
+    pub given: bool,
+}
+
+pub enum Number {
+    Is(usize),
+    Refused(u8),
+}
+
+pub enum Flag {
+    Is(bool),
+    Refused(u8),
+}
+
+// Where a piece stands in the buffer.
+pub struct Part {
+    pub start: usize,
+    pub size: usize,
+}
+
+pub enum Piece {
+    At(Part),
+    Nothing,
+    Refused(u8),
+}
+
+pub struct Next {
+    pub answer: Piece,
+    pub message: Chunks,
+}
+
+// The smaller of two numbers.
+fn least(a: usize, b: usize) -> usize
+    ensures { λ r. ⌜ r ≡ min a b ⌝ }
+{
+    if a < b { a } else { b }
+}
+
+impl Chunks {
+    // Refusal 0: the message is longer than its buffer, or the position is past the message.
+    fn unsound(self, buffer: &[u8]) -> bool
+        ensures { λ r. ⌜ r ≡ unsound self (now (buffer .entry)) ⌝ }
+    {
+        if buffer.len() < self.size {
+            return true;
+        }
+        self.size < self.position
+    }
+
+    // How many bytes the message has.
+    pub fn len(self, buffer: &[u8]) -> Number
+        ensures { λ r. ⌜ numberTold r ≡ size self (now (buffer .entry)) ⌝ }
+    {
+        if self.unsound(buffer) {
+            return Number::Refused(0);
+        }
+        Number::Is(self.size)
+    }
+
+    // Whether it has none.
+    pub fn is_empty(self, buffer: &[u8]) -> Flag
+        ensures { λ r. ⌜ flagTold r ≡ isEmpty self (now (buffer .entry)) ⌝ }
+    {
+        if self.unsound(buffer) {
+            return Flag::Refused(0);
+        }
+        Flag::Is(self.size == 0)
+    }
+
+    // The whole message, copied to the front of a lent buffer; where that is too short, what fits of it, and 7.
+    pub fn read(self, buffer: &[u8], out: &mut [u8]) -> Number
+        ensures { λ r. ⌜ written (numberTold r) (now (out .exit)) ≡ wholeRead self (now (buffer .entry)) (now (out .entry)) ⌝ }
+    {
+        if self.unsound(buffer) {
+            return Number::Refused(0);
+        }
+        let n = self.size;
+        let room = out.len();
+        if room < n {
+            wire::put_bytes(out, &buffer[0..room]);
+            return Number::Refused(7);
+        }
+        wire::put_bytes(out, &buffer[0..n]);
+        Number::Is(n)
+    }
+
+    // Whether no piece is left.
+    fn finished(self) -> bool
+        ensures { λ r. ⌜ r ≡ finished self ⌝ }
+    {
+        if self.position != self.size {
+            return false;
+        }
+        if self.size != 0 {
+            return true;
+        }
+        self.given
+    }
+
+    // The place of the next piece, of at most so many bytes.
+    pub fn next(self, buffer: &[u8], most: usize) -> Next
+        ensures { λ r. ⌜ after (pieceTold (r .answer)) (r .message) ≡ nextPiece self (now (buffer .entry)) most ⌝ }
+    {
+        if self.unsound(buffer) {
+            return Next {
+                answer: Piece::Refused(0),
+                message: self,
+            };
+        }
+        if self.finished() {
+            return Next {
+                answer: Piece::Nothing,
+                message: self,
+            };
+        }
+        let start = self.position;
+        let size = least(most, self.size - start);
+        let mut message = self;
+        message.position = start + size;
+        message.given = self.given | (self.size == 0);
+        Next {
+            answer: Piece::At(Part { start, size }),
+            message,
+        }
+    }
+}

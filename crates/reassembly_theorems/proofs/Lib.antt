@@ -1,0 +1,5 @@
+pub mod Views
+pub mod Within
+pub mod Stays
+pub mod Readable
+pub mod Sheet

@@ -1,0 +1,148 @@
+// What the receiver does, line by line.
+use crate::receiver::Receiver;
+use chunk::Marshalled;
+use chunk::chunk_selective_ack;
+use chunks::Chunks;
+use chunks::Number;
+use payload_queue::LOG;
+use payload_queue::PayloadQueue;
+use reassembly_queue::Took;
+
+// The window that the SACKs advertise.
+const WINDOW: u32 = 1500;
+
+pub fn refused(k: u8) {
+    print::number_line(b"  refused with ", k as u64);
+}
+
+pub fn arrival(tsn: u32, user_data: &[u8]) {
+    print::text(b"TSN ");
+    print::number(tsn as u64);
+    print::text(b" arrives with ");
+    print::quoted(user_data);
+    print::text(b"\n");
+}
+
+// What is acknowledged; the log of duplicates goes out with it.
+pub fn acknowledge(r: Receiver, tsns: &[u32; payload_queue::WORDS]) -> Receiver {
+    let queue = r.tsns;
+    let handed = queue.pop_duplicates(tsns);
+    let logged = handed.answer;
+    let log = handed.tsns;
+    report(queue, tsns, r.cumulative, log, count(logged));
+    let fragments = r.fragments;
+    let emptied = handed.queue;
+    Receiver {
+        tsns: emptied,
+        fragments,
+        cumulative: r.cumulative,
+    }
+}
+
+// The cumulative TSN, the gap report and the SACK's bytes.
+fn report(
+    queue: PayloadQueue,
+    tsns: &[u32; payload_queue::WORDS],
+    cumulative: u32,
+    log: [u32; LOG],
+    dups: usize,
+) {
+    let mut starts = [0u16; 8];
+    let mut ends = [0u16; 8];
+    let answer = queue.get_gap_ack_blocks(tsns, cumulative, &mut starts, &mut ends);
+    let blocks = count(answer);
+    print::number_line(b"  cumulative TSN  ", cumulative as u64);
+    gaps(&starts, &ends, blocks);
+    sack(
+        cumulative,
+        front(&starts, blocks),
+        front(&ends, blocks),
+        front_tsns(&log, dups),
+    );
+}
+
+// The number of an answer; a refusal is shown, and counts as none.
+fn count(answer: payload_queue::Number) -> usize {
+    match answer {
+        payload_queue::Number::Is(n) => n,
+        payload_queue::Number::Refused(k) => {
+            refused(k);
+            0
+        }
+    }
+}
+
+// The first n entries; all of them where there are fewer.
+fn front(list: &[u16], n: usize) -> &[u16] {
+    if n <= list.len() { &list[0..n] } else { list }
+}
+
+fn front_tsns(list: &[u32], n: usize) -> &[u32] {
+    if n <= list.len() { &list[0..n] } else { list }
+}
+
+fn gaps(starts: &[u16], ends: &[u16], n: usize) {
+    print::text(b"  gap report      ");
+    if n == 0 {
+        print::text(b"none");
+    }
+    let mut i: usize = 0;
+    while i < n {
+        if 0 < i {
+            print::text(b", ");
+        }
+        block(starts, ends, i);
+        i += 1;
+    }
+    print::text(b"\n");
+}
+
+fn block(starts: &[u16], ends: &[u16], i: usize) {
+    print::number(at(starts, i) as u64);
+    print::text(b"-");
+    print::number(at(ends, i) as u64);
+}
+
+fn at(list: &[u16], i: usize) -> u16 {
+    if i < list.len() { list[i] } else { 0 }
+}
+
+fn sack(cumulative: u32, starts: &[u16], ends: &[u16], duplicates: &[u32]) {
+    let mut out = [0u8; 64];
+    let answer = chunk_selective_ack::marshal_to(
+        &mut out,
+        cumulative,
+        WINDOW,
+        starts,
+        ends,
+        duplicates,
+    );
+    match answer {
+        Marshalled::Refused(k) => refused(k),
+        Marshalled::Bytes(n) => print::bytes_line(b"  SACK            ", print::first(&out, n)),
+    }
+}
+
+// The image as it came out of reassembly.
+pub fn taken(answer: Took, buffer: &[u8]) {
+    match answer {
+        Took::Refused(k) => refused(k),
+        Took::Nothing => print::text(b"Nothing can be taken.\n"),
+        Took::Message(m) => image(m, buffer),
+    }
+}
+
+fn image(m: Chunks, buffer: &[u8]) {
+    print::text(b"The image, ");
+    print::number(m.size as u64);
+    print::text(b" bytes:\n  ");
+    print::quoted(print::first(buffer, m.size));
+    print::text(b"\n");
+}
+
+pub fn left(answer: Number) {
+    match answer {
+        Number::Refused(k) => refused(k),
+        Number::Is(n) => print::number_line(b"Bytes still held: ", n as u64),
+    }
+}
