@@ -1,0 +1,207 @@
+-- What the premises are for: runs each of which breaks one of them alone, and for which what the theorem says is false.
+-- Assumes nothing.
+use mathlib.Core.Path.{_≡_, refl, sym, ap, _∙_}
+use mathlib.Core.Bool.{Bool, true, false}
+use mathlib.Core.List.{List, [], _∷_}
+use Prim.Native.Nat.{ℕ, suc, _+_, _*_, _≤_}
+use native.Mathlib.Omega.{arith}
+use lib.ListN.{length, length-append, length-map}
+use Rattle.wire.specs.Refusal.{Refusal, none, refuse, Told, says}
+use Rattle.serial.specs.Serial.{ahead, distance, before}
+use Rattle.chunk.specs.Data.{dataFlags, dataSent}
+use Rattle.chunk.specs.declared.chunk_payload_data.PayloadProtocolIdentifier.the-variants.{Binary}
+use Rattle.table.specs.Lists.{slice, gone}
+use Rattle.fragments.specs.Frag.{Frag}
+use Rattle.fragments.specs.Words.{size, any, while, past, find, placed}
+use Rattle.fragments.specs.Sets.{setOf, rises, complete, joins, grownSet, stored}
+use Rattle.fragments.specs.Loose.{runs, run, reach, startsBy, scan}
+use Rattle.reassembly_queue.specs.Limits.{fragsMost, bytesMost}
+use Rattle.reassembly_queue.specs.Model.{Queue, held, gives, roomFor, keepOrdered, pushOrdered, moveRun, keepLoose, pushUnordered, push, readySet, movedOn, finishedTurn, orderedTurn, turn, readable, taken}
+use Rattle.reassembly_queue.specs.State.{State, stateOf, fresh, fragmentOf, unsound, shown, pushed, Read}
+use Rattle.reassembly_queue.proofs.Laws.{held-view}
+use Rattle.arrival.specs.Plan as model
+use Rattle.arrival.specs.Plan.{Order, none-left, one-of, Merge, neither, left, right}
+use Rattle.arrival.specs.Calls.{Chunk, Sent, Call, Push, Take, pushes, ran, Came, message, inOrder, out, Arrived}
+use Rattle.arrival.proofs.Maps.{Each}
+use Rattle.arrival.proofs.Planned.{Of, fragOf, pieceOf}
+use Rattle.arrival.proofs.Bridge.{push-holds, push-told, read-is, told, events, Walked, walk, fresh-holds, Long-on, back}
+use Rattle.arrival.proofs.Example.{chunk}
+
+-- ── the theorem counts: as many messages come as were sent, and none are left ──
+
+module _ {A : Type 0} where
+  order-length : {l r : List A} → Order A l r → length l ≡ length r
+  order-length none-left = refl
+  order-length (one-of xs a ys o) = let k = order-length o ∙ length-append xs ys in rw (length-append xs (a ∷ ys)) (omega arith)
+
+  merge-length : {l r m : List A} → Merge A l r m → length m ≡ length l + length r
+  merge-length neither = refl
+  merge-length (left g) = let k = merge-length g in omega arith
+  merge-length (right g) = let k = merge-length g in omega arith
+
+in-order-length : (n : ℕ) (ms : List Sent) → length (inOrder n ms) ≡ length ms
+in-order-length n [] = refl
+in-order-length n (m ∷ ms) = ap suc (in-order-length (suc n) ms)
+
+arrived-count : {os us : List Sent} {s : State} {calls : List Call} → Arrived os us s calls → length (out s calls) ≡ length os + length us
+arrived-count {os} {us} a =
+    merge-length (a .merged) ∙ rw (in-order-length 0 os, order-length (a .some-order), length-map us (message 0))
+
+-- ── runs with room and long buffers, on the model: so many messages come, so many fragments stay ──
+
+record Shows (max : ℕ) (calls : List Call) (m n : ℕ) : Type 0 where
+  of : Each (Of 7) (pushes calls)
+  roomy : model.Roomy (model.starts 7 max) (events calls)
+  long : Long-on (model.starts 7 max) calls
+  comes : length (model.out (model.starts 7 max) (events calls)) ≡ m
+  stay : length (held (model.final (model.starts 7 max) (events calls))) ≡ n
+
+-- chunks of one byte: unordered ones by B, E and TSN, whole ordered ones by SSN and TSN
+abbrev loose : Bool → Bool → ℕ → Chunk
+loose b e tsn = chunk true b e tsn 0 Binary (65 ∷ [])
+
+abbrev numbered : ℕ → ℕ → Chunk
+numbered ssn tsn = chunk false true true tsn ssn Binary (65 ∷ [])
+
+abbrev sent : ℕ → List Chunk → Sent
+sent first cs = record { ppi = Binary; first = first; chunks = cs }
+
+abbrev take : Call
+take = Take (0 ∷ 0 ∷ 0 ∷ [])
+
+-- "TSNs are distinct": TSN 1 is in two messages; the second is taken for the first
+abbrev twice : List Call
+twice = Push (loose true false 1) ∷ Push (loose true true 1) ∷ Push (loose false true 2) ∷ take ∷ take ∷ []
+
+-- "Each chunk comes once": it comes twice, and so does its message
+abbrev again : List Call
+again = Push (loose true true 1) ∷ Push (loose true true 1) ∷ take ∷ take ∷ []
+
+-- "the first alone marked beginning": so is the second, and the first stays
+abbrev two-beginnings : List Call
+two-beginnings = Push (loose true false 1) ∷ Push (loose true false 2) ∷ Push (loose false true 3) ∷ take ∷ take ∷ []
+
+-- "consecutive TSNs": 2 is left out
+abbrev a-gap : List Call
+a-gap = Push (loose true false 1) ∷ Push (loose false true 3) ∷ take ∷ []
+
+-- "numbered on from 0": from 1
+abbrev from-one : List Call
+from-one = Push (numbered 1 1) ∷ take ∷ []
+
+-- "in one arc shorter than 2^31": three messages lie around the circle, and what is held is never side by side
+abbrev around : List Call
+around =
+    Push (loose true false 0) ∷ Push (loose true false 2147483647) ∷ Push (loose true false 2147483650) ∷ Push (loose false true 1) ∷ Push (loose false true 2147483648)
+    ∷ Push (loose false true 2147483651) ∷ take ∷ take ∷ take ∷ []
+
+computed : Shows 3 twice 1 0 × Shows 3 again 2 0 × Shows 3 two-beginnings 1 1 × Shows 3 a-gap 0 2 × Shows 3 from-one 0 1 × Shows 3 around 0 6
+unfolding push pushUnordered keepLoose moveRun pushOrdered keepOrdered stored grownSet joins placed any complete rises setOf while past size reach run runs find scan startsBy ahead distance before slice gone turn finishedTurn orderedTurn readySet movedOn readable roomFor fragmentOf dataFlags dataSent
+computed = (
+  record { of = (refl, (refl, (refl, tt))); roomy = (refl, (refl, (refl, tt))); long = (omega arith, (omega arith, tt)); comes = refl; stay = refl },
+  record { of = (refl, (refl, tt)); roomy = (refl, (refl, tt)); long = (omega arith, (omega arith, tt)); comes = refl; stay = refl },
+  record { of = (refl, (refl, (refl, tt))); roomy = (refl, (refl, (refl, tt))); long = (omega arith, (omega arith, tt)); comes = refl; stay = refl },
+  record { of = (refl, (refl, tt)); roomy = (refl, (refl, tt)); long = (omega arith, tt); comes = refl; stay = refl },
+  record { of = (refl, tt); roomy = (refl, tt); long = (omega arith, tt); comes = refl; stay = refl },
+  record {
+    of = (refl, (refl, (refl, (refl, (refl, (refl, tt))))));
+    roomy = (refl, (refl, (refl, (refl, (refl, (refl, tt))))));
+    long = (omega arith, (omega arith, (omega arith, tt)));
+    comes = refl;
+    stay = refl;
+  },
+)
+
+-- ── refusals ──
+
+abbrev number : Refusal → ℕ
+number none = 0
+number (refuse k) = suc k
+
+refused : (k : ℕ) {r : Refusal} → r ≡ refuse k → r ≡ none → ⊥
+refused k e f = let z : suc k ≡ 0 = ap number (sym e ∙ f) in absurd (omega arith)
+
+no-room : (bytes : List ℕ) → length bytes ≡ 32769
+    → push (roomFor (model.starts 7 40000) (fragOf (chunk true true true 1 0 Binary bytes))) (model.starts 7 40000) 7 true (fragOf (chunk true true true 1 0 Binary bytes)) .told
+    ≡ says (refuse 8) false
+unfolding push pushUnordered reach run any roomFor size fragmentOf dataFlags
+no-room bytes e = rw e
+
+too-short : taken shown (model.afterPush (model.starts 7 3) (pieceOf (loose true true 1))) [] .told .refusal ≡ refuse 10
+unfolding taken push pushUnordered keepLoose moveRun placed any reach run runs find scan startsBy slice gone turn finishedTurn readable size while roomFor fragmentOf dataFlags dataSent
+too-short = refl
+
+unsound-pool : (ws pool : List ℕ) → length pool ≡ 32767 → pushed (stateOf (fresh 7 3) ws pool) (loose true true 1 .fields) (loose true true 1 .bytes) .told .refusal ≡ refuse 0
+unfolding pushed unsound
+unsound-pool ws pool e = rw e
+
+-- "Ordered messages, at most 32,767": the one numbered 32,769, come first, is taken for an old one, and not kept
+pub at-most : push true (model.starts 7 3) 7 false (fragOf (numbered 32769 1)) ≡ gives (says none false) (model.starts 7 3)
+unfolding push pushOrdered setOf while past size any ahead distance before fragmentOf dataFlags dataSent
+at-most = refl
+
+-- ── of the calls, on any table and pool of the lengths ──
+
+module _ (ws pool : List ℕ) (w : length ws ≡ 4 * fragsMost) (p : bytesMost ≤ length pool) where
+  abbrev start : ℕ → State
+  start max = stateOf (fresh 7 max) ws pool
+
+  module _ {max : ℕ} {calls : List Call} {m n : ℕ} (h : Shows max calls m n) {os us : List Sent} (a : Arrived os us (start max) calls) where
+    walked : Walked (start max) (model.starts 7 max) calls
+    walked =
+        let f = fresh-holds 7 max ws pool w p in
+        let k = back f calls (h .of) (h .roomy) (h .long) in
+        walk f calls (h .of) (k .0) (k .1)
+
+    all-come : m ≡ length os + length us
+    all-come =
+        sym (h .comes) ∙ sym (length-map (model.out (model.starts 7 max) (events calls)) told) ∙ ap (λ (l : List Came). length l) (sym (walked .came)) ∙ arrived-count a
+
+    none-stay : n ≡ 0
+    none-stay =
+        sym (h .stay) ∙ ap (λ (q : Queue). length (held q)) (sym (walked .holds .seen)) ∙ ap (λ (l : List Frag). length l) (held-view (ran (start max) calls) ∙ a .nothing-held)
+
+  pub tsns-distinct : Arrived [] (sent 0 (loose true false 1 ∷ loose false true 2 ∷ []) ∷ sent 0 (loose true true 1 ∷ []) ∷ []) (start 3) twice → ⊥
+  tsns-distinct a = let k = all-come (computed .0) a in absurd (omega arith)
+
+  pub once-each : Arrived [] (sent 0 (loose true true 1 ∷ []) ∷ []) (start 3) again → ⊥
+  once-each a = let k = all-come (computed .1) a in absurd (omega arith)
+
+  pub one-beginning : Arrived [] (sent 0 (loose true false 1 ∷ loose true false 2 ∷ loose false true 3 ∷ []) ∷ []) (start 3) two-beginnings → ⊥
+  one-beginning a = let k = none-stay (computed .2) a in absurd (omega arith)
+
+  pub consecutive : Arrived [] (sent 0 (loose true false 1 ∷ loose false true 3 ∷ []) ∷ []) (start 3) a-gap → ⊥
+  consecutive a = let k = none-stay (computed .3) a in absurd (omega arith)
+
+  pub from-zero : Arrived (sent 0 (numbered 1 1 ∷ []) ∷ []) [] (start 3) from-one → ⊥
+  from-zero a = let k = none-stay (computed .4) a in absurd (omega arith)
+
+  pub one-arc : Arrived []
+      (sent 0 (loose true false 0 ∷ loose false true 1 ∷ []) ∷ sent 2147483647 (loose true false 2147483647 ∷ loose false true 2147483648 ∷ [])
+      ∷ sent 2147483650 (loose true false 2147483650 ∷ loose false true 2147483651 ∷ []) ∷ [])
+      (start 3) around → ⊥
+  one-arc a = let k = none-stay (computed .5) a in absurd (omega arith)
+
+  -- ── calls that are refused ──
+
+  -- "none over the size limit": a byte, where none is allowed
+  pub size-limit : Arrived [] (sent 0 (loose true true 1 ∷ []) ∷ []) (start 0) (Push (loose true true 1) ∷ []) → ⊥
+  unfolding push pushUnordered reach run fragmentOf dataFlags
+  size-limit a = refused 6 (ap (λ (t : Told Bool). t .refusal) (push-told (fresh-holds 7 0 ws pool w p) (loose true true 1) refl)) (a .unrefused .0)
+
+  -- "room never exceeded": 32,769 bytes
+  pub room : (bytes : List ℕ) → length bytes ≡ 32769
+      → Arrived [] (sent 0 (chunk true true true 1 0 Binary bytes ∷ []) ∷ []) (start 40000) (Push (chunk true true true 1 0 Binary bytes) ∷ []) → ⊥
+  room bytes e a =
+      let c : Chunk = chunk true true true 1 0 Binary bytes in
+      refused 8 (ap (λ (t : Told Bool). t .refusal) (push-told (fresh-holds 7 40000 ws pool w p) c refl ∙ no-room bytes e)) (a .unrefused .0)
+
+  -- "take buffers long enough": an empty one for a byte
+  pub long-buffers : Arrived [] (sent 0 (loose true true 1 ∷ []) ∷ []) (start 3) (Push (loose true true 1) ∷ Take [] ∷ take ∷ []) → ⊥
+  long-buffers a =
+      let h = push-holds (fresh-holds 7 3 ws pool w p) (loose true true 1) refl in
+      refused 10 (ap (λ (r : Read). r .told .refusal) (read-is h []) ∙ too-short) (a .unrefused .1 .0)
+
+-- "the pool at its full limit": a byte less
+pub full-pool : (ws pool : List ℕ) → length pool ≡ 32767 → Arrived [] (sent 0 (loose true true 1 ∷ []) ∷ []) (stateOf (fresh 7 3) ws pool) (Push (loose true true 1) ∷ []) → ⊥
+full-pool ws pool e a = refused 0 (unsound-pool ws pool e) (a .unrefused .0)
