@@ -1,15 +1,15 @@
 -- Whether rows are a whole message, apart from the code: what is left to see after the row at i, and what each test makes of it.
 -- Assumes nothing.
 use mathlib.Core.Path.{_≡_, refl, sym, ap, _∙_}
-use mathlib.Core.Bool.{Bool, false, _&&_}
+use mathlib.Core.Bool.{Bool, true, false, _&&_}
 use mathlib.Core.List.{List, [], _∷_, map}
-use Prim.Native.Nat.{ℕ, _+_, _*_, _/_, _%_, _<_, _≤_}
+use Prim.Native.Nat.{ℕ, zero, suc, _+_, _*_, _-_, _/_, _%_, _<_, _≤_}
 use native.Mathlib.Numerals.{add-one}
 use native.Mathlib.Omega.{arith}
 use lib.Dec.{eqb}
 use lib.ListN.{length, getD, take, drop, length-drop, drop-of-length-le}
 use lib.Seq.{drop-cons, getD-drop, getD-take, length-take-le}
-use borrow.Author.Tests.{eq-eqb, ne-eqb}
+use borrow.Author.Tests.{eq-eqb, ne-eqb, eqb-true, eqb-false}
 use Rattle.serial.specs.Serial.{next}
 use Rattle.table.specs.Rows.{blank, rowsOf}
 use Rattle.table.specs.declared.Row.{Row}
@@ -111,7 +111,21 @@ module _ {size : ℕ} {table : List ℕ} {from n i : ℕ} (w : Whole size table 
     pub whole-break : (there ≡ next 32 here → ⊥) → false ≡ whole size table from n
     whole-break k = rw (ne-eqb there (next 32 here) k) at step
 
-  pub whole-last : n ≤ i + 1 → {q : ℕ} → q ≡ from + i → eqb (getD table q 0 / 16777216 % 2) 1 ≡ whole size table from n
+  whole-last : n ≤ i + 1 → {q : ℕ} → q ≡ from + i → eqb (getD table q 0 / 16777216 % 2) 1 ≡ whole size table from n
   whole-last h e =
       rw (head-at size table (w .sized) (from + i) (omega (arith, w .fit, w .within)) e)
       (rw (segment-end (rowsOf size table) from n fits (i + 1) h, rises-nil) at (w .is))
+
+module _ {size : ℕ} {table : List ℕ} {from n : ℕ} {q : ℕ} (e : q ≡ from + (n - 1)) where
+  -- TSNs rise up to the last row, and that is E
+  pub whole-ended : {i : ℕ} → Whole size table from n i → n ≤ i + 1 → getD table q 0 / 16777216 % 2 ≡ 1 → true ≡ whole size table from n
+  whole-ended w h k = sym (eq-eqb (getD table q 0 / 16777216 % 2) 1 k) ∙ whole-last w h (omega (arith, w .within))
+
+  -- the last row, k rows behind the one at i, is not E: whatever the TSNs between them are
+  pub whole-unended : (k : ℕ) {i : ℕ} → Whole size table from n i → n ≡ i + 1 + k → (getD table q 0 / 16777216 % 2 ≡ 1 → ⊥) → false ≡ whole size table from n
+  whole-unended zero w h un = sym (ne-eqb (getD table q 0 / 16777216 % 2) 1 un) ∙ whole-last w (omega arith) (omega (arith, w .within))
+  whole-unended (suc k) {i} w h un = go (eqb (there w) (next 32 (here w))) refl (λ v. whole-unended k v (omega arith) un)
+    where
+      go : (t : Bool) → eqb (there w) (next 32 (here w)) ≡ t → (Whole size table from n (i + 1) → false ≡ whole size table from n) → false ≡ whole size table from n
+      go true r more = more (whole-turn w (omega arith) (eqb-true _ _ r))
+      go false r more = whole-break w (omega arith) (eqb-false _ _ r)

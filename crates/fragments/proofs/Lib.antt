@@ -3,4 +3,5 @@ pub mod Pool
 pub mod Words
 pub mod Seen
 pub mod Run
+pub mod Reach
 pub mod Scan

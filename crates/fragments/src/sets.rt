@@ -90,8 +90,11 @@ pub fn is_complete(table: &[u32], size: usize, from: usize, n: usize) -> bool
     if table[from] / 16777216 / 2 % 2 != 1 {
         return false;
     }
-    let tsns = size + from;
     let end = n - 1;
+    if table[from + end] / 16777216 % 2 != 1 {
+        return false;
+    }
+    let tsns = size + from;
     let mut i: usize = 0;
     while i < end {
         let next = serial::tsn_next(table[tsns + i]);
@@ -100,5 +103,5 @@ pub fn is_complete(table: &[u32], size: usize, from: usize, n: usize) -> bool
             return false;
         }
     }
-    table[from + end] / 16777216 % 2 == 1
+    true
 }

@@ -4,11 +4,11 @@ use mathlib.Core.Path.{_≡_, refl, sym, ap, _∙_}
 use mathlib.Core.Bool.{Bool, true, false, cond, _&&_, true≢false}
 use mathlib.Core.List.{List, [], _∷_, _++_, map}
 use mathlib.Core.Option as option
-use Prim.Native.Nat.{ℕ, zero, suc, _+_, _-_, _*_, _<_, _≤_}
+use Prim.Native.Nat.{ℕ, _+_, _-_, _*_, _<_, _≤_}
 use native.Mathlib.Omega.{arith}
 use borrow.Author.Tests.{lt-ltb, le-ltb, ltb-true, ltb-false, leb-true}
 use lib.Dec.{ltb, leb}
-use lib.ListN.{length, take, drop, length-append, length-take, length-drop, length-map, length-replicate}
+use lib.ListN.{length, take, drop, length-append, length-take, length-drop, length-map}
 use Rattle.chunk.specs.declared.chunk_payload_data.ChunkPayloadData.{ChunkPayloadData}
 use Rattle.serial.specs.Serial.{next}
 use Rattle.wire.specs.Refusal.{none, refuse, says}
@@ -17,12 +17,13 @@ use Rattle.table.specs.Rows.{some, upToLast}
 use Rattle.table.specs.declared.Row.{Row}
 use Rattle.table.proofs.Scans.{last-within}
 use Rattle.table.proofs.Turned.{turned-long}
-use Rattle.fragments.specs.Frag.{Frag, bare, ofRow, begins, ends, hasTsn, tsnBefore, longLength}
-use Rattle.fragments.specs.Words.{size, any, find, placed}
-use Rattle.fragments.specs.Loose.{runs, run, runDown, runUp, reach, scanned, previous}
+use Rattle.fragments.specs.Frag.{Frag, bare, ofRow, begins, ends, hasTsn, tsnBefore}
+use Rattle.fragments.specs.Words.{size, any, placed}
+use Rattle.fragments.specs.Loose.{runDown, runUp, reach, scanned, previous}
 use Rattle.fragments.specs.declared.loose.Span.{Span}
 use Rattle.fragments.specs.Pool.{cut, layRows, layBytes}
-use Rattle.fragments.proofs.Pool.{B, Fit, fit-cut, fit-put, cut-length, size-put, size-turned}
+use Rattle.fragments.proofs.Reach.{total-most, both-runs}
+use Rattle.fragments.proofs.Pool.{B, total-take, total-within, Fit, fit-cut, fit-put, cut-length, size-put, size-turned}
 use Rattle.fragments.proofs.Seen.{any-cut, placed-cut, run-cut, scan-cut}
 use Rattle.fragments.proofs.Scan.{scan-within}
 use Rattle.reassembly_queue.specs.Limits.{fragsMost, bytesMost}
@@ -35,42 +36,36 @@ use Rattle.reassembly_queue.proofs.Laws.{Sound, held-view, fragments-le
 use Rattle.reassembly_queue.proofs.Chunk.{chunk-begins, chunk-ends, chunk-tsn, chunk-bytes}
 use Rattle.reassembly_queue.specs.declared.ReassemblyQueue.{ReassemblyQueue}
 
--- ── a run is small ──
+-- ── how far a message reaches ──
 
-fit-bare : (rs : List Row) → Fit (map bare rs)
-fit-bare [] = tt
-fit-bare (r ∷ rs) = (rw (length-replicate {A = ℕ} (longLength (r .head)) 0) (omega arith), fit-bare rs)
+module _ (q : ReassemblyQueue) (rows : List Row) (few : count q ≤ fragsMost) where
+  both : (t : ℕ) → runDown t (map bare (looseRows q rows)) + runUp t (map bare (looseRows q rows)) ≤ B (looseRows q rows)
+  both t =
+      let long : length (looseRows q rows) ≤ q .unordered = simp length-take (omega arith) in
+      both-runs t (looseRows q rows) (omega arith)
 
-module _ (last : Frag → Bool) where
-  here-small : (x : Frag) (n : ℕ) → length (x .bytes) < 16777216 → runs last (option.some x) n ≤ 16777216 + n
-  unfolding runs
-  here-small x n h = go (last x)
+  -- both runs of a chunk fit together
+  pub runs-fit : (t : ℕ) → runDown t (map bare (looseRows q rows)) + runUp t (map bare (looseRows q rows)) ≤ fragsMost * 16777216
+  runs-fit t =
+      let long : length (looseRows q rows) ≤ q .unordered = simp length-take (omega arith) in
+      omega (arith, both t, total-most (looseRows q rows))
+
+  neighbours-most : (p : ChunkPayloadData) → neighbours q rows p ≤ B (looseRows q rows)
+  unfolding neighbours
+  neighbours-most p = go (p .«beginning_fragment») (p .«ending_fragment»)
     where
-      go : (b : Bool) → length (x .bytes) + cond b 0 n ≤ 16777216 + n
-      go true = omega arith
-      go false = omega arith
+      go : (b e : Bool) → cond b 0 (runDown (p .tsn) (map bare (looseRows q rows))) + cond e 0 (runUp (p .tsn) (map bare (looseRows q rows))) ≤ B (looseRows q rows)
+      go true true = omega arith
+      go true false = omega (arith, both (p .tsn))
+      go false true = omega (arith, both (p .tsn))
+      go false false = both (p .tsn)
 
-  found-small : (p : Frag → Bool) (n : ℕ) (l : List Frag) → Fit l → runs last (find p l) n ≤ 16777216 + n
-  unfolding find runs
-  found-small p n [] h = omega arith
-  found-small p n (x ∷ xs) h = go (p x) (found-small p n xs (h .1))
-    where
-      go : (b : Bool) → runs last (find p xs) n ≤ 16777216 + n → runs last (cond b (option.some x) (find p xs)) n ≤ 16777216 + n
-      go true k = here-small x n (h .0)
-      go false k = k
-
-  run-small : (step : ℕ → ℕ) (n t : ℕ) (l : List Frag) → Fit l → run step last n t l ≤ n * 16777216
-  unfolding run
-  run-small step zero t l h = omega arith
-  run-small step (suc n) t l h = omega (arith, run-small step n (step t) l h, found-small (hasTsn t) (run step last n (step t) l) l h)
-
--- both runs of a chunk fit together
-module _ (t : ℕ) (rs : List Row) where
-  pub down-small : runDown t (map bare rs) ≤ length rs * 16777216
-  down-small = rw (← (length-map rs bare)) (run-small begins previous (length (map bare rs)) (previous t) (map bare rs) (fit-bare rs))
-
-  pub up-small : runUp t (map bare rs) ≤ length rs * 16777216
-  up-small = rw (← (length-map rs bare)) (run-small ends (next 32) (length (map bare rs)) (next 32 t) (map bare rs) (fit-bare rs))
+  -- where all that is held is not above the maximum with so many bytes more, a message is not
+  pub not-large : (p : ChunkPayloadData) (more : ℕ) → B (take (count q) rows) ≡ q .«n_bytes» → ltb (q .«max_message_size») (q .«n_bytes» + more) ≡ false → false ≡ ltb (q .«max_message_size») (neighbours q rows p + more)
+  not-large p more e h =
+      let within = total-within (q .finished) (q .unordered) rows in
+      let most = total-take (q .finished + q .unordered) (count q) rows (omega arith) in
+      sym (le-ltb (q .«max_message_size») (neighbours q rows p + more) (omega (arith, neighbours-most p, ltb-false (q .«max_message_size») (q .«n_bytes» + more) h)))
 
 -- ── one scan of a queue ──
 
@@ -291,13 +286,13 @@ module _ (s : State) (k : Sound s) (full : length (s .rows) ≡ fragsMost) where
 
 -- ── a push, by what the rows say ──
 
-both : (a b : Bool) → a && b ≡ true → (a ≡ true) × (b ≡ true)
-both true b e = (refl, e)
-both false b e = absurd (true≢false (sym e))
+each : (a b : Bool) → a && b ≡ true → (a ≡ true) × (b ≡ true)
+each true b e = (refl, e)
+each false b e = absurd (true≢false (sym e))
 
 pub has-room : (q : ReassemblyQueue) (n : ℕ) → leb (count q + 1) fragsMost && leb (q .«n_bytes» + n) bytesMost ≡ true → (count q < fragsMost) × (q .«n_bytes» + n ≤ bytesMost)
 has-room q n e =
-    let x = both (leb (count q + 1) fragsMost) (leb (q .«n_bytes» + n) bytesMost) e in
+    let x = each (leb (count q + 1) fragsMost) (leb (q .«n_bytes» + n) bytesMost) e in
     let few = leb-true (count q + 1) fragsMost (x .0) in
     (omega arith, leb-true (q .«n_bytes» + n) bytesMost (x .1))
 

@@ -2,8 +2,10 @@
 ghost use mathlib.Core.Path.{_≡_};
 ghost use mathlib.Core.Bool.{false};
 ghost use Prim.Native.Nat.{_+_, _*_, _≤_, _<_};
-ghost use lib.ListN.{length};
-ghost use Rattle.table.specs.Rows.{rowsOf};
+ghost use lib.Dec.{ltb};
+ghost use lib.ListN.{length, take};
+ghost use Rattle.table.specs.Rows.{rowsOf, total};
+ghost use Rattle.fragments.specs.Frag.{longLength};
 ghost use Rattle.reassembly_queue.specs.Limits.{fragsMost, bytesMost};
 ghost use Rattle.chunks.specs.Message.{flagTold};
 ghost use Rattle.reassembly_queue.specs.Model.{roomFor, pushUnordered};
@@ -37,6 +39,20 @@ fn reach(queue: ReassemblyQueue, table: &[u32], chunk: ChunkPayloadData) -> usiz
     }
     let up = fragments::loose::run_up(table, FRAGMENTS, from, loose, chunk.tsn);
     down + up
+}
+
+// Whether the message that an unordered chunk belongs to is above the maximum with so many bytes more. Where all that is held is not, it is not.
+fn too_large(queue: ReassemblyQueue, table: &[u32], chunk: ChunkPayloadData, more: usize) -> bool
+    requires { ⌜ length (now table) ≡ 4 * fragsMost ⌝ }
+    requires { ⌜ count queue ≤ fragsMost ⌝ }
+    requires { ⌜ total longLength (take (count queue) (rowsOf fragsMost (now table))) ≡ queue .«n_bytes» ⌝ }
+    ensures { λ r. ⌜ r ≡ ltb (queue .«max_message_size») (neighbours queue (rowsOf fragsMost (now (table .entry))) chunk + more) ⌝ }
+{
+    if !room::above(queue.max_message_size, queue.n_bytes, more) {
+        return false;
+    }
+    let bytes = reach(queue, table, chunk);
+    room::above(queue.max_message_size, bytes, more)
 }
 
 // A loose fragment stored at its place by TSN.
@@ -121,8 +137,7 @@ pub(crate) fn push(
     ensures { λ r. ⌜ after (flagTold (r .answer)) (stateOf (r .queue) (now (table .exit)) (now (pool .exit))) ≡ laid (stateOf queue (now (table .entry)) (now (pool .entry))) (pushUnordered (roomFor (view (stateOf queue (now (table .entry)) (now (pool .entry)))) (fragmentOf chunk (now («user_data» .entry)))) (view (stateOf queue (now (table .entry)) (now (pool .entry)))) (fragmentOf chunk (now («user_data» .entry)))) ⌝ }
 {
     let more = user_data.len();
-    let bytes = reach(queue, table, chunk);
-    if room::above(queue.max_message_size, bytes, more) {
+    if too_large(queue, table, chunk, more) {
         return room::unchanged(queue, Flag::Refused(6));
     }
     if table::has_tsn(table, FRAGMENTS, queue.finished, queue.unordered, chunk.tsn) {

@@ -1,11 +1,10 @@
 -- `reassembly_queue::unordered::push` meets its contract: its tests are the model's, in the same order; a refused push changes nothing, and one that stores is settled.
 -- Assumes nothing.
 use mathlib.Core.Path.{_≡_, sym, ap, _∙_}
-use Prim.Native.Nat.{ℕ, _+_, _≤_, _<_}
+use Prim.Native.Nat.{_+_, _≤_, _<_}
 use borrow.Author.Needs.{needs}
 use native.Mathlib.Omega.{arith}
 use borrow.Author.Tests.{not-true, not-false}
-use lib.Dec.{ltb}
 use lib.ListN.{length}
 use Rattle.table.proofs.Columns.{rows-long}
 use Rattle.fragments.specs.Frag.{Frag}
@@ -13,7 +12,7 @@ use Rattle.reassembly_queue.specs.Limits.{fragsMost, bytesMost}
 use Rattle.reassembly_queue.specs.State.{State, stateOf, unsound, count, view, laid, fragmentOf}
 use Rattle.reassembly_queue.specs.Rows.{settled}
 use Rattle.reassembly_queue.proofs.Laws.{Sound, sound}
-use Rattle.reassembly_queue.proofs.Loose.{large, push-large, push-again, push-crowded, push-stores, has-room, stored-sound, stored-settled}
+use Rattle.reassembly_queue.proofs.Loose.{push-large, push-again, push-crowded, push-stores, has-room, stored-sound, stored-settled}
 use Rattle.reassembly_queue.proofs.unordered.push.Statement.{statement}
 use Rattle.reassembly_queue.proofs.unordered.push.Tie as tie
 
@@ -30,22 +29,15 @@ ok c = sound (of c) (c .pre .1)
 full : (c : tie.Start) → length (of c .rows) ≡ fragsMost
 full c = rows-long fragsMost (c .args .table .now) (c .pre .0)
 
-abbrev sized : tie.After-above → tie.Start
-sized c = c .before .before .before .before .before .before
-
--- what the tests say
-
-large-is : (c : tie.After-above) → (let s = sized c in c .above .result ≡ large (of s) (ok s) (full s) (s .args .chunk) (s .args .user-data .now))
-large-is c =
-    let a = sized c .args in
-    c .above .ensures ∙ ap (λ (n : ℕ). ltb (a .queue .«max_message_size») (n + length (a .user-data .now))) (c .before .reach .ensures)
+abbrev sized : tie.After-too-large → tie.Start
+sized c = c .before .before .before .before .before
 
 above : tie.Need-returns
 above c =
     let t = c .before in
     let s = sized (t .before) in
     rw (c .unchanged .ensures .0, c .unchanged .ensures .1)
-    (push-large (of s) (ok s) (full s) (s .args .chunk) (s .args .user-data .now) (sym (large-is (t .before)) ∙ t .if1 .taken))
+    (push-large (of s) (ok s) (full s) (s .args .chunk) (s .args .user-data .now) (sym (t .before .too-large .ensures) ∙ t .if1 .taken))
 
 again : tie.Need-returns-2
 again c =
@@ -54,7 +46,7 @@ again c =
     let e = h .before .before in
     let s = sized (e .before) in
     rw (c .unchanged2 .ensures .0, c .unchanged2 .ensures .1)
-    (push-again (of s) (ok s) (full s) (s .args .chunk) (s .args .user-data .now) (sym (large-is (e .before)) ∙ e .if1 .left) (sym (h .has-tsn .ensures) ∙ t .if2 .taken))
+    (push-again (of s) (ok s) (full s) (s .args .chunk) (s .args .user-data .now) (sym (e .before .too-large .ensures) ∙ e .if1 .left) (sym (h .has-tsn .ensures) ∙ t .if2 .taken))
 
 crowded : tie.Need-returns-3
 crowded c =
@@ -65,7 +57,7 @@ crowded c =
     let e = h .before .before in
     let s = sized (e .before) in
     rw (c .unchanged3 .ensures .0, c .unchanged3 .ensures .1)
-    (push-crowded (of s) (ok s) (full s) (s .args .chunk) (s .args .user-data .now) (sym (large-is (e .before)) ∙ e .if1 .left) (sym (h .has-tsn .ensures) ∙ n .if2 .left) (sym (r .has-room .ensures) ∙ not-true _ (t .if3 .taken)))
+    (push-crowded (of s) (ok s) (full s) (s .args .chunk) (s .args .user-data .now) (sym (e .before .too-large .ensures) ∙ e .if1 .left) (sym (h .has-tsn .ensures) ∙ n .if2 .left) (sym (r .has-room .ensures) ∙ not-true _ (t .if3 .taken)))
 
 -- from the place where there is room back to the start
 abbrev spared : tie.Else3 → tie.Start
@@ -97,14 +89,13 @@ stored c =
     let s = spared r in
     t .settle .ensures ∙ ap (λ (x : State). laid x (settled (view x))) (p .store-loose .ensures)
     ∙ stored-settled (of s) (ok s) (full s) (new s) (room r .0) (room r .1)
-    ∙ push-stores (of s) (ok s) (full s) (s .args .chunk) (s .args .user-data .now) (sym (large-is (e .before)) ∙ e .if1 .left) (sym (h .has-tsn .ensures) ∙ n .if2 .left) (sym (r .before .has-room .ensures) ∙ not-false _ (r .if3 .left))
+    ∙ push-stores (of s) (ok s) (full s) (s .args .chunk) (s .args .user-data .now) (sym (e .before .too-large .ensures) ∙ e .if1 .left) (sym (h .has-tsn .ensures) ∙ n .if2 .left) (sym (r .before .has-room .ensures) ∙ not-false _ (r .if3 .left))
 
 pub push-spec : {M : Type 1} → statement M
 push-spec =
     tie.close
     (tie.spec
-    (λ c κs. (c .before .before .before .before .pre .0, ok (c .before .before .before .before) .few))
-    (λ c κs. search needs)
+    (λ c κs. let s = c .before .before .before .before in (s .pre .0, (ok s .few, ok s .sums)))
     (λ c κs. search needs)
     (λ c. search needs)
     above

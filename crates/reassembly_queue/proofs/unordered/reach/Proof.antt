@@ -2,12 +2,10 @@
 -- Assumes nothing.
 use borrow.Author.Needs.{needs}
 use native.Mathlib.Omega.{arith}
-use lib.ListN.{length, length-take}
-use Prim.Native.Nat.{_≤_}
 use Rattle.table.specs.Rows.{rowsOf}
 use Rattle.reassembly_queue.specs.Limits.{fragsMost}
-use Rattle.reassembly_queue.specs.Rows.{looseRows, neighbours}
-use Rattle.reassembly_queue.proofs.Loose.{down-small, up-small}
+use Rattle.reassembly_queue.specs.Rows.{neighbours}
+use Rattle.reassembly_queue.proofs.Loose.{runs-fit}
 use Rattle.reassembly_queue.proofs.unordered.reach.Statement.{statement}
 use Rattle.reassembly_queue.proofs.unordered.reach.Tie as tie
 
@@ -31,10 +29,7 @@ fits : tie.Need-add-result
 fits c =
     let d = c .before .before in
     let a = d .before .before .before .args in
-    let rs = looseRows (a .queue) (rowsOf fragsMost (a .table .now)) in
-    let long : length rs ≤ a .queue .unordered = simp length-take (omega arith) in
-    let up = up-small (a .chunk .tsn) rs in
-    let down = down-small (a .chunk .tsn) rs in
+    let k = runs-fit (a .queue) (rowsOf fragsMost (a .table .now)) (omega arith) (a .chunk .tsn) in
     rw (d .run-down .ensures, c .run-up2 .ensures) (search needs)
 
 pub reach-spec : {M : Type 1} → statement M
