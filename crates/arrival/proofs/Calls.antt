@@ -7,9 +7,9 @@ use Prim.Native.Nat.{ℕ, suc, _*_, _≤_}
 use native.Mathlib.Omega.{arith}
 use lib.ListN.{length}
 use Rattle.wire.specs.Refusal.{none, Told, says}
-use Rattle.chunk.specs.Data.{identifierNumber, identifierName}
-use Rattle.chunk.specs.declared.chunk_payload_data.PayloadProtocolIdentifier.{PayloadProtocolIdentifier}
-use Rattle.chunk.specs.declared.chunk_payload_data.PayloadProtocolIdentifier.the-variants.{Dcep, String, Binary, StringEmpty, BinaryEmpty, Unknown}
+use Rattle.chunk_payload_data.specs.Data.{identifierNumber, identifierName}
+use Rattle.chunk_payload_data.specs.declared.PayloadProtocolIdentifier.{PayloadProtocolIdentifier}
+use Rattle.chunk_payload_data.specs.declared.PayloadProtocolIdentifier.the-variants.{Dcep, String, Binary, StringEmpty, BinaryEmpty, Unknown}
 use Rattle.fragments.specs.Words.{size}
 use Rattle.reassembly_queue.specs.Limits.{fragsMost, bytesMost}
 use Rattle.reassembly_queue.specs.Model.{Queue, held, readable}

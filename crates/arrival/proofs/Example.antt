@@ -8,9 +8,9 @@ use native.Mathlib.Omega.{arith}
 use lib.ListN.{length}
 use Rattle.wire.specs.Refusal.{none, says}
 use Rattle.serial.specs.Serial.{ahead, distance, before}
-use Rattle.chunk.specs.Data.{identifierName, dataFlags, dataSent}
-use Rattle.chunk.specs.declared.chunk_payload_data.PayloadProtocolIdentifier.{PayloadProtocolIdentifier}
-use Rattle.chunk.specs.declared.chunk_payload_data.PayloadProtocolIdentifier.the-variants.{Dcep, String, Binary, StringEmpty}
+use Rattle.chunk_payload_data.specs.Data.{identifierName, dataFlags, dataSent}
+use Rattle.chunk_payload_data.specs.declared.PayloadProtocolIdentifier.{PayloadProtocolIdentifier}
+use Rattle.chunk_payload_data.specs.declared.PayloadProtocolIdentifier.the-variants.{Dcep, String, Binary, StringEmpty}
 use Rattle.table.specs.Lists.{slice, gone}
 use Rattle.fragments.specs.Words.{size, joined, any, while, past, find, placed}
 use Rattle.fragments.specs.Sets.{setOf, rises, complete, joins, grownSet, stored}

@@ -8,8 +8,8 @@ use native.Mathlib.Omega.{arith}
 use lib.ListN.{length, length-append, length-map}
 use Rattle.wire.specs.Refusal.{Refusal, none, refuse, Told, says}
 use Rattle.serial.specs.Serial.{ahead, distance, before}
-use Rattle.chunk.specs.Data.{dataFlags, dataSent}
-use Rattle.chunk.specs.declared.chunk_payload_data.PayloadProtocolIdentifier.the-variants.{Binary}
+use Rattle.chunk_payload_data.specs.Data.{dataFlags, dataSent}
+use Rattle.chunk_payload_data.specs.declared.PayloadProtocolIdentifier.the-variants.{Binary}
 use Rattle.table.specs.Lists.{slice, gone}
 use Rattle.fragments.specs.Frag.{Frag}
 use Rattle.fragments.specs.Words.{size, any, while, past, find, placed}

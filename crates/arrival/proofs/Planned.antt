@@ -9,8 +9,8 @@ use native.Mathlib.Omega.{arith}
 use borrow.Author.Tests.{leb-true, leb-false}
 use lib.Dec.{leb}
 use lib.ListN.{length, length-map}
-use Rattle.chunk.specs.Data.{identifierNumber, dataSent}
-use Rattle.chunk.specs.declared.chunk_payload_data.PayloadProtocolIdentifier.{PayloadProtocolIdentifier}
+use Rattle.chunk_payload_data.specs.Data.{identifierNumber, dataSent}
+use Rattle.chunk_payload_data.specs.declared.PayloadProtocolIdentifier.{PayloadProtocolIdentifier}
 use Rattle.fragments.specs.Frag.{Frag}
 use Rattle.fragments.specs.Words.{joined}
 use Rattle.fragments.proofs.Pool.{joined-length}

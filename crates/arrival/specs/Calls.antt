@@ -7,9 +7,9 @@ use mathlib.Core.List.{List, [], _∷_, _++_, map}
 use Prim.Native.Nat.{ℕ, suc, _+_, _*_, _^_, _≤_}
 use lib.ListN.{length, take}
 use Rattle.wire.specs.Refusal.{none, says}
-use Rattle.chunk.specs.Data.{identifierNumber}
-use Rattle.chunk.specs.declared.chunk_payload_data.ChunkPayloadData.{ChunkPayloadData}
-use Rattle.chunk.specs.declared.chunk_payload_data.PayloadProtocolIdentifier.{PayloadProtocolIdentifier}
+use Rattle.chunk_payload_data.specs.Data.{identifierNumber}
+use Rattle.chunk_payload_data.specs.declared.ChunkPayloadData.{ChunkPayloadData}
+use Rattle.chunk_payload_data.specs.declared.PayloadProtocolIdentifier.{PayloadProtocolIdentifier}
 use Rattle.fragments.specs.Words.{size}
 use Rattle.reassembly_queue.specs.Limits.{fragsMost, bytesMost}
 use Rattle.reassembly_queue.specs.Model.{Message, noMessage, turn, roomFor}

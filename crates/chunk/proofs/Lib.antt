@@ -1,3 +1,1 @@
 pub mod Headers
-pub mod DataBytes
-pub mod SackBytes

@@ -2,5 +2,3 @@ pub mod Layout
 pub mod Header
 pub mod Part
 pub mod Marshal
-pub mod Data
-pub mod Sack

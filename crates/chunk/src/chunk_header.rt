@@ -46,7 +46,7 @@ fn read(raw: &[u8]) -> Unmarshalled
 }
 
 // The same for a chunk of one type: another type is refused with 3, a length below the least of the type with its own number.
-pub(crate) fn unmarshal_as(raw: &[u8], kind: u8, least: u16, short: u8) -> Unmarshalled
+pub fn unmarshal_as(raw: &[u8], kind: u8, least: u16, short: u8) -> Unmarshalled
     ensures { λ r. ⌜ ((f : HeaderFront (now (raw .entry))) → headerTold r ≡ headerRead (kindChecks kind least short (length (now (raw .entry))) (f .fields)) (f .fields)) ⌝ }
     ensures { λ r. ⌜ Room least (length (now (raw .entry))) r ⌝ }
 {
@@ -68,7 +68,7 @@ pub(crate) fn unmarshal_as(raw: &[u8], kind: u8, least: u16, short: u8) -> Unmar
 }
 
 // The header, put at the front of what is lent.
-pub(crate) fn marshal_to(out: &mut [u8], kind: u8, flags: u8, length: u16)
+pub fn marshal_to(out: &mut [u8], kind: u8, flags: u8, length: u16)
     requires { ⌜ 4 ≤ lib.ListN.length (now out) ⌝ }
     ensures { λ _. ⌜ now (out .exit) ≡ over (now (out .entry)) (headerBytes (header kind flags length)) ⌝ }
 {

@@ -1,7 +1,5 @@
-// Chunks read from lent bytes and written into lent buffers: header, DATA, SACK.
+// What all chunks share: the header, and what readers and writers answer.
 pub mod chunk_header;
-pub mod chunk_payload_data;
-pub mod chunk_selective_ack;
 
 // What a part call hands out where nothing is refused.
 pub const ACCEPTED: u8 = 255;

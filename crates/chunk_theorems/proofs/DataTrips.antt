@@ -11,15 +11,16 @@ use lib.ListN.{length, take, drop, length-drop}
 use lib.Seq.{take-all, take-at}
 use denote.Ref.{RefT}
 use Rattle.wire.specs.Refusal.{none, says, first}
-use Rattle.chunk.specs.Layout.{Header, header, Data, DataFits, dataValue, dataChunk}
+use Rattle.chunk.specs.Layout.{Header, header}
+use Rattle.chunk_payload_data.specs.Layout.{Data, DataFits, dataValue, dataChunk}
 use Rattle.chunk.specs.Header.{HeaderFront, Headed, HeadedFits}
 use Rattle.chunk.specs.Part.{Part}
-use Rattle.chunk.specs.Data.{identifierNumber, identifierName, flagSet, weighed, DataValues, dataShown, dataHeld, dataTold, DataFront, dataChecks, dataRead, userData, dataFlags, dataSent}
-use Rattle.chunk.specs.declared.chunk_payload_data.ChunkPayloadData.{ChunkPayloadData}
-use Rattle.chunk.specs.declared.chunk_payload_data.Unmarshalled as «data»
-use Rattle.chunk.specs.declared.chunk_payload_data.Unmarshalled.the-variants as data-is
+use Rattle.chunk_payload_data.specs.Data.{identifierNumber, identifierName, flagSet, weighed, DataValues, dataShown, dataHeld, dataTold, DataFront, dataChecks, dataRead, userData, dataFlags, dataSent}
+use Rattle.chunk_payload_data.specs.declared.ChunkPayloadData.{ChunkPayloadData}
+use Rattle.chunk_payload_data.specs.declared.Unmarshalled as «data»
+use Rattle.chunk_payload_data.specs.declared.Unmarshalled.the-variants as data-is
 use Rattle.chunk.proofs.Headers.{header-front, passes, headed-accepted, chunk-front, chunk-behind, chunk-passes, part-back}
-use Rattle.chunk.proofs.DataBytes.{data-value-length}
+use Rattle.chunk_payload_data.proofs.DataBytes.{data-value-length}
 use Rattle.chunk_theorems.proofs.OneAnswer.{data-told-one, name-of-number}
 
 -- ── what is accepted is a DATA chunk of the fields in front and of the user data ──

@@ -10,13 +10,15 @@ use Rattle.wire.specs.BigEndian.{bigEndian}
 use Rattle.wire.specs.Front.{Front}
 use Rattle.wire.specs.Facts.{big-endian-length}
 use Rattle.wire.proofs.Exists.{Bytes, Piece, piece, cut, bytes-drop, padded, padded-long, padded-bytes, unpadded}
-use Rattle.chunk.specs.Layout.{header, HeaderFits, headerBytes, DataFits, dataValue, sack, SackFits, sackValue, block, blockBytes}
+use Rattle.chunk.specs.Layout.{header, HeaderFits, headerBytes}
+use Rattle.chunk_payload_data.specs.Layout.{DataFits, dataValue}
+use Rattle.chunk_selective_ack.specs.Layout.{sack, SackFits, sackValue, block, blockBytes}
 use Rattle.chunk.specs.Header.{HeaderFront, HeadedFits, headedBytes, HeadedFront}
-use Rattle.chunk.specs.Data.{DataFront}
-use Rattle.chunk.specs.Sack.{SackFront, BlockFits, BlockFront, TsnFront}
+use Rattle.chunk_payload_data.specs.Data.{DataFront}
+use Rattle.chunk_selective_ack.specs.Sack.{SackFront, BlockFits, BlockFront, TsnFront}
 use Rattle.chunk.proofs.Headers.{header-length}
-use Rattle.chunk.proofs.DataBytes.{data-value-length}
-use Rattle.chunk.proofs.SackBytes.{block-length, sack-value-length}
+use Rattle.chunk_payload_data.proofs.DataBytes.{data-value-length}
+use Rattle.chunk_selective_ack.proofs.SackBytes.{block-length, sack-value-length}
 
 -- fields whose layout is the first n bytes
 record Laid {A : Type 0} (layout : A → List ℕ) (Fits : A → Type 0) (n : ℕ) (raw : List ℕ) : Type 0 where

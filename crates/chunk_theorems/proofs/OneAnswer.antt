@@ -7,25 +7,26 @@ use lib.ListN.{length}
 use denote.Ref.{RefT}
 use Rattle.wire.specs.Refusal.{Refusal, none, refuse, Told, Written, written}
 use Rattle.wire.proofs.Exists.{Bytes}
-use Rattle.chunk.specs.Layout.{Header, Sack, Block}
+use Rattle.chunk.specs.Layout.{Header}
+use Rattle.chunk_selective_ack.specs.Layout.{Sack, Block}
 use Rattle.chunk.specs.Header.{HeaderFront, headerChecks, headerTold, headerRead}
 use Rattle.chunk.specs.Part.{Part}
-use Rattle.chunk.specs.Data.{identifierNumber, identifierName, DataValues, dataHeld, dataTold, DataFront, dataRead, userData}
-use Rattle.chunk.specs.Sack.{sackHeld, sackTold, SackFront, sackRead, blocksPart, duplicatesPart, BlockFront, blockTold, blockRead, TsnFront, tsnTold, tsnRead}
+use Rattle.chunk_payload_data.specs.Data.{identifierNumber, identifierName, DataValues, dataHeld, dataTold, DataFront, dataRead, userData}
+use Rattle.chunk_selective_ack.specs.Sack.{sackHeld, sackTold, SackFront, sackRead, blocksPart, duplicatesPart, BlockFront, blockTold, blockRead, TsnFront, tsnTold, tsnRead}
 use Rattle.chunk.specs.Marshal.{marshalTold}
 use Rattle.chunk.specs.declared.chunk_header.Unmarshalled as head
 use Rattle.chunk.specs.declared.chunk_header.Unmarshalled.the-variants as head-is
-use Rattle.chunk.specs.declared.chunk_payload_data.ChunkPayloadData.{ChunkPayloadData}
-use Rattle.chunk.specs.declared.chunk_payload_data.PayloadProtocolIdentifier.{PayloadProtocolIdentifier}
-use Rattle.chunk.specs.declared.chunk_payload_data.PayloadProtocolIdentifier.the-variants.{Dcep, String, Binary, StringEmpty, BinaryEmpty, Unknown}
-use Rattle.chunk.specs.declared.chunk_payload_data.Unmarshalled as «data»
-use Rattle.chunk.specs.declared.chunk_payload_data.Unmarshalled.the-variants as data-is
-use Rattle.chunk.specs.declared.chunk_selective_ack.Unmarshalled as sack
-use Rattle.chunk.specs.declared.chunk_selective_ack.Unmarshalled.the-variants as sack-is
-use Rattle.chunk.specs.declared.chunk_selective_ack.GapAckBlockAt as block
-use Rattle.chunk.specs.declared.chunk_selective_ack.GapAckBlockAt.the-variants as block-is
-use Rattle.chunk.specs.declared.chunk_selective_ack.DuplicateTsnAt as tsn
-use Rattle.chunk.specs.declared.chunk_selective_ack.DuplicateTsnAt.the-variants as tsn-is
+use Rattle.chunk_payload_data.specs.declared.ChunkPayloadData.{ChunkPayloadData}
+use Rattle.chunk_payload_data.specs.declared.PayloadProtocolIdentifier.{PayloadProtocolIdentifier}
+use Rattle.chunk_payload_data.specs.declared.PayloadProtocolIdentifier.the-variants.{Dcep, String, Binary, StringEmpty, BinaryEmpty, Unknown}
+use Rattle.chunk_payload_data.specs.declared.Unmarshalled as «data»
+use Rattle.chunk_payload_data.specs.declared.Unmarshalled.the-variants as data-is
+use Rattle.chunk_selective_ack.specs.declared.Unmarshalled as sack
+use Rattle.chunk_selective_ack.specs.declared.Unmarshalled.the-variants as sack-is
+use Rattle.chunk_selective_ack.specs.declared.GapAckBlockAt as block
+use Rattle.chunk_selective_ack.specs.declared.GapAckBlockAt.the-variants as block-is
+use Rattle.chunk_selective_ack.specs.declared.DuplicateTsnAt as tsn
+use Rattle.chunk_selective_ack.specs.declared.DuplicateTsnAt.the-variants as tsn-is
 use Rattle.chunk.specs.declared.Marshalled.{Marshalled}
 use Rattle.chunk.specs.declared.Marshalled.the-variants as bytes-is
 use Rattle.chunk_theorems.proofs.Fronts.{header-some, data-some, sack-some, block-some, tsn-some}

@@ -13,16 +13,17 @@ use Rattle.wire.specs.Refusal.{none, says, first}
 use Rattle.wire.specs.Facts.{big-endian-length}
 use Rattle.wire.proofs.Reading.{first-passed, none-holds, none-both, begins-with}
 use Rattle.wire.proofs.Exists.{Bytes, piece, cut, bytes-drop}
-use Rattle.chunk.specs.Layout.{header, Sack, sack, SackFits, sackValue, block, blockBytes, gapBlocks, duplicateTsns, chunk, sackChunk}
+use Rattle.chunk.specs.Layout.{header, chunk}
+use Rattle.chunk_selective_ack.specs.Layout.{Sack, sack, SackFits, sackValue, block, blockBytes, gapBlocks, duplicateTsns, sackChunk}
 use Rattle.chunk.specs.Header.{kindChecks, Headed, HeadedFits}
 use Rattle.chunk.specs.Part.{Part}
-use Rattle.chunk.specs.Sack.{sackHeld, sackTold, SackFront, listsOnly, sackChecks, sackRead, blocksPart, duplicatesPart, entryChecks, BlockFront, blockTold, blockRead, TsnFront, tsnTold, tsnRead}
-use Rattle.chunk.specs.declared.chunk_selective_ack.Unmarshalled.{Unmarshalled}
-use Rattle.chunk.specs.declared.chunk_selective_ack.Unmarshalled.the-variants.{Fields}
-use Rattle.chunk.specs.declared.chunk_selective_ack.GapAckBlockAt.{GapAckBlockAt}
-use Rattle.chunk.specs.declared.chunk_selective_ack.DuplicateTsnAt.{DuplicateTsnAt}
+use Rattle.chunk_selective_ack.specs.Sack.{sackHeld, sackTold, SackFront, listsOnly, sackChecks, sackRead, blocksPart, duplicatesPart, entryChecks, BlockFront, blockTold, blockRead, TsnFront, tsnTold, tsnRead}
+use Rattle.chunk_selective_ack.specs.declared.Unmarshalled.{Unmarshalled}
+use Rattle.chunk_selective_ack.specs.declared.Unmarshalled.the-variants.{Fields}
+use Rattle.chunk_selective_ack.specs.declared.GapAckBlockAt.{GapAckBlockAt}
+use Rattle.chunk_selective_ack.specs.declared.DuplicateTsnAt.{DuplicateTsnAt}
 use Rattle.chunk.proofs.Headers.{passes, headed-accepted, chunk-front, chunk-behind, chunk-passes, part-back}
-use Rattle.chunk.proofs.SackBytes.{block-length, blocks-length, tsns-length, sack-value-length, lists-length}
+use Rattle.chunk_selective_ack.proofs.SackBytes.{block-length, blocks-length, tsns-length, sack-value-length, lists-length}
 use Rattle.chunk_theorems.proofs.OneAnswer.{sack-told-one}
 
 -- ── what is accepted is a SACK chunk of the fields in front and of what lies behind them ──

@@ -6,10 +6,12 @@ use mathlib.Core.List.{[], _∷_}
 use Prim.Native.Nat.{ℕ}
 use Rattle.wire.specs.BigEndian.{bigEndian}
 use Rattle.wire.specs.Refusal.{none, refuse, says}
-use Rattle.chunk.specs.Layout.{header, headerBytes, Data, dataValue, dataChunk, sackValue, blockBytes, gapBlocks, duplicateTsns, sackChunk}
+use Rattle.chunk.specs.Layout.{header, headerBytes}
+use Rattle.chunk_payload_data.specs.Layout.{Data, dataValue, dataChunk}
+use Rattle.chunk_selective_ack.specs.Layout.{sackValue, blockBytes, gapBlocks, duplicateTsns, sackChunk}
 use Rattle.chunk.specs.Header.{Headed}
-use Rattle.chunk.specs.Data.{identifierNumber, identifierName, dataShown, noData, dataRead}
-use Rattle.chunk.specs.declared.chunk_payload_data.PayloadProtocolIdentifier.the-variants.{Unknown}
+use Rattle.chunk_payload_data.specs.Data.{identifierNumber, identifierName, dataShown, noData, dataRead}
+use Rattle.chunk_payload_data.specs.declared.PayloadProtocolIdentifier.the-variants.{Unknown}
 
 -- P2: DATA, B and E, TSN 10, stream 2, SSN 5, identifier 51, "abc"
 pub p2 : dataChunk 3 (record { tsn = 10; stream = 2; ssn = 5; identifier = 51 }) (0x61 ∷ 0x62 ∷ 0x63 ∷ [])

@@ -6,7 +6,7 @@ use mathlib.Core.List.{List, []}
 use Prim.Native.Nat.{ℕ}
 use lib.ListN.{replicate}
 use Rattle.wire.specs.Refusal.{none, says}
-use Rattle.chunk.specs.declared.chunk_payload_data.PayloadProtocolIdentifier.the-variants.{Binary}
+use Rattle.chunk_payload_data.specs.declared.PayloadProtocolIdentifier.the-variants.{Binary}
 use Rattle.chunks.specs.Message.{place, noPlace, unsound, finished, moved, nextPiece}
 use Rattle.chunks.specs.Pieces.{afterCalls, answerOf}
 use Rattle.chunks.specs.declared.Chunks.{Chunks}

@@ -4,10 +4,9 @@ use crate::part;
 use crate::sheet;
 use crate::tally;
 use crate::tally::Tally;
-use chunk::chunk_payload_data;
-use chunk::chunk_payload_data::ChunkPayloadData;
-use chunk::chunk_payload_data::PayloadProtocolIdentifier;
-use chunk::chunk_payload_data::Unmarshalled;
+use chunk_payload_data::ChunkPayloadData;
+use chunk_payload_data::PayloadProtocolIdentifier;
+use chunk_payload_data::Unmarshalled;
 
 pub fn run(t: Tally) -> Tally {
     let t = whole(t);

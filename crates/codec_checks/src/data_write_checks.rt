@@ -4,9 +4,8 @@ use crate::sheet;
 use crate::tally;
 use crate::tally::Tally;
 use chunk::Marshalled;
-use chunk::chunk_payload_data;
-use chunk::chunk_payload_data::ChunkPayloadData;
-use chunk::chunk_payload_data::PayloadProtocolIdentifier;
+use chunk_payload_data::ChunkPayloadData;
+use chunk_payload_data::PayloadProtocolIdentifier;
 
 pub fn run(t: Tally) -> Tally {
     let t = whole(t);

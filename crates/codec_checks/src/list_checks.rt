@@ -2,9 +2,8 @@
 use crate::part;
 use crate::tally;
 use crate::tally::Tally;
-use chunk::chunk_selective_ack;
-use chunk::chunk_selective_ack::DuplicateTsnAt;
-use chunk::chunk_selective_ack::GapAckBlockAt;
+use chunk_selective_ack::DuplicateTsnAt;
+use chunk_selective_ack::GapAckBlockAt;
 
 pub fn run(t: Tally) -> Tally {
     let t = blocks(t);

@@ -4,9 +4,8 @@ use crate::part;
 use crate::sheet;
 use crate::tally;
 use crate::tally::Tally;
-use chunk::chunk_selective_ack;
-use chunk::chunk_selective_ack::ChunkSelectiveAck;
-use chunk::chunk_selective_ack::Unmarshalled;
+use chunk_selective_ack::ChunkSelectiveAck;
+use chunk_selective_ack::Unmarshalled;
 
 pub fn run(t: Tally) -> Tally {
     let t = whole(t);

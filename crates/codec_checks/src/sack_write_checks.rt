@@ -5,7 +5,6 @@ use crate::sheet;
 use crate::tally;
 use crate::tally::Tally;
 use chunk::Marshalled;
-use chunk::chunk_selective_ack;
 
 pub fn run(t: Tally) -> Tally {
     let t = whole(t);

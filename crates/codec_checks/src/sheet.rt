@@ -1,7 +1,7 @@
 // The chunks of the bench sheet, byte by byte, and what they say.
-use chunk::chunk_payload_data::ChunkPayloadData;
-use chunk::chunk_payload_data::PayloadProtocolIdentifier;
-use chunk::chunk_selective_ack::ChunkSelectiveAck;
+use chunk_payload_data::ChunkPayloadData;
+use chunk_payload_data::PayloadProtocolIdentifier;
+use chunk_selective_ack::ChunkSelectiveAck;
 
 // P2: B and E, TSN 10, stream 2, SSN 5, identifier 51, "abc".
 pub const P2: [u8; 19] =

@@ -5,13 +5,11 @@ use crate::sheet;
 use crate::tally;
 use crate::tally::Tally;
 use chunk::Marshalled;
-use chunk::chunk_payload_data;
-use chunk::chunk_payload_data::ChunkPayloadData;
-use chunk::chunk_payload_data::PayloadProtocolIdentifier;
-use chunk::chunk_selective_ack;
-use chunk::chunk_selective_ack::DuplicateTsnAt;
-use chunk::chunk_selective_ack::GapAckBlockAt;
-use chunk::chunk_selective_ack::Unmarshalled;
+use chunk_payload_data::ChunkPayloadData;
+use chunk_payload_data::PayloadProtocolIdentifier;
+use chunk_selective_ack::DuplicateTsnAt;
+use chunk_selective_ack::GapAckBlockAt;
+use chunk_selective_ack::Unmarshalled;
 
 pub fn run(t: Tally) -> Tally {
     let t = datas(t);

@@ -14,7 +14,7 @@ use lib.Seq.{length-take-le, take-all, set-getD, take-suc, getD-drop, getD-appen
 use borrow.Author.Tests.{ltb-false, eqb-true, not-false}
 use Rattle.wire.specs.BigEndian.{over}
 use Rattle.wire.specs.Facts.{over-snoc}
-use Rattle.chunk.specs.declared.chunk_payload_data.ChunkPayloadData.{ChunkPayloadData}
+use Rattle.chunk_payload_data.specs.declared.ChunkPayloadData.{ChunkPayloadData}
 use Rattle.table.specs.Lists.{gone}
 use Rattle.table.specs.Rows.{blank, total, some, kept, shortLength}
 use Rattle.table.specs.declared.Row.{Row}

@@ -4,7 +4,7 @@ use Prim.Native.Nat.{ℕ}
 use mathlib.Core.Bool.{Bool, true, false}
 use mathlib.Core.List.{List}
 use Rattle.wire.specs.Refusal.{none, refuse, Told, says}
-use Rattle.chunk.specs.Data.{dataHeld}
+use Rattle.chunk_payload_data.specs.Data.{dataHeld}
 use Rattle.payload_queue.specs.Queue.{Found, nothing, Last, Handed, zeros}
 use Rattle.payload_queue.specs.declared.Queued.{Queued}
 use Rattle.payload_queue.specs.declared.Flag.{Flag}

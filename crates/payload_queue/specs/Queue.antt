@@ -8,9 +8,9 @@ use lib.ListN.{length, take, drop, getD, set, replicate}
 use Rattle.wire.specs.BigEndian.{over}
 use Rattle.wire.specs.Refusal.{none, refuse, Told, says}
 use Rattle.serial.specs.Serial.{atOrBefore}
-use Rattle.chunk.specs.Layout.{Data}
-use Rattle.chunk.specs.Data.{DataValues, noData, dataShown, dataFlags, dataSent}
-use Rattle.chunk.specs.declared.chunk_payload_data.ChunkPayloadData.{ChunkPayloadData}
+use Rattle.chunk_payload_data.specs.Layout.{Data}
+use Rattle.chunk_payload_data.specs.Data.{DataValues, noData, dataShown, dataFlags, dataSent}
+use Rattle.chunk_payload_data.specs.declared.ChunkPayloadData.{ChunkPayloadData}
 use Rattle.table.specs.Lists.{put}
 use Rattle.table.specs.Rows.{row, blank, rowsOf, total, some, upToLast, aheadOf, kept, hasTsn, hasStream, tsnBefore, shortLength}
 use Rattle.table.specs.declared.Row.{Row}

@@ -12,9 +12,8 @@ ghost use Rattle.payload_queue.specs.Answers.{flagTold, numberTold, queu
 
 mod gap;
 
-use chunk::chunk_payload_data;
-use chunk::chunk_payload_data::ChunkPayloadData;
-use chunk::chunk_payload_data::PayloadProtocolIdentifier;
+use chunk_payload_data::ChunkPayloadData;
+use chunk_payload_data::PayloadProtocolIdentifier;
 use table::Row;
 
 // The sizes, stated once. `specs/Limits.antt` states them once for the proofs.

@@ -1,7 +1,7 @@
 // Answers of the queue's calls against what they must be.
 use crate::tally;
 use crate::tally::Tally;
-use chunk::chunk_payload_data::ChunkPayloadData;
+use chunk_payload_data::ChunkPayloadData;
 use payload_queue::Done;
 use payload_queue::Flag;
 use payload_queue::LastTsn;

@@ -5,7 +5,7 @@ use crate::list;
 use crate::tally::Tally;
 use crate::trial;
 use crate::trial::Trial;
-use chunk::chunk_payload_data::PayloadProtocolIdentifier;
+use chunk_payload_data::PayloadProtocolIdentifier;
 use payload_queue::Flag;
 use payload_queue::Number;
 use payload_queue::WORDS;

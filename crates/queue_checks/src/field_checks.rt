@@ -3,8 +3,8 @@ use crate::answer;
 use crate::tally::Tally;
 use crate::trial;
 use crate::trial::Trial;
-use chunk::chunk_payload_data::ChunkPayloadData;
-use chunk::chunk_payload_data::PayloadProtocolIdentifier;
+use chunk_payload_data::ChunkPayloadData;
+use chunk_payload_data::PayloadProtocolIdentifier;
 use payload_queue::WORDS;
 
 pub fn run(t: Tally) -> Tally {

@@ -9,7 +9,7 @@ use native.Mathlib.Omega.{arith}
 use borrow.Author.Tests.{lt-ltb, le-ltb, ltb-true, ltb-false, leb-true}
 use lib.Dec.{ltb, leb}
 use lib.ListN.{length, take, drop, length-append, length-take, length-drop, length-map}
-use Rattle.chunk.specs.declared.chunk_payload_data.ChunkPayloadData.{ChunkPayloadData}
+use Rattle.chunk_payload_data.specs.declared.ChunkPayloadData.{ChunkPayloadData}
 use Rattle.serial.specs.Serial.{next}
 use Rattle.wire.specs.Refusal.{none, refuse, says}
 use Rattle.table.specs.Lists.{put, slice, gone, turned}

@@ -8,7 +8,7 @@ use borrow.Author.Tests.{eq-eqb, ne-eqb}
 use lib.Dec.{eqb}
 use lib.ListN.{length}
 use Rattle.wire.specs.Refusal.{none, says}
-use Rattle.chunk.specs.declared.chunk_payload_data.ChunkPayloadData.{ChunkPayloadData}
+use Rattle.chunk_payload_data.specs.declared.ChunkPayloadData.{ChunkPayloadData}
 use Rattle.reassembly_queue.specs.Limits.{fragsMost}
 use Rattle.reassembly_queue.specs.Model.{roomFor, pushOrdered, pushUnordered, push}
 use Rattle.reassembly_queue.specs.State.{State, unsound, view, after, laid, fragmentOf, pushed}

@@ -2,7 +2,7 @@
 -- Assumes nothing.
 use mathlib.Core.Bool.{Bool, true, false}
 use Rattle.wire.specs.Refusal.{none, refuse, Told, says}
-use Rattle.chunk.specs.Data.{identifierNumber}
+use Rattle.chunk_payload_data.specs.Data.{identifierNumber}
 use Rattle.reassembly_queue.specs.Model.{Message, noMessage}
 use Rattle.chunks.specs.declared.Chunks.{Chunks}
 use Rattle.reassembly_queue.specs.declared.Took.{Took}

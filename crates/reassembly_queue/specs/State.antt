@@ -6,8 +6,8 @@ use mathlib.Core.List.{List}
 use lib.Dec.{ltb, eqb}
 use lib.ListN.{length, take, drop}
 use Rattle.wire.specs.Refusal.{none, refuse, Told, says}
-use Rattle.chunk.specs.Data.{dataFlags, dataSent, identifierNumber, identifierName}
-use Rattle.chunk.specs.declared.chunk_payload_data.ChunkPayloadData.{ChunkPayloadData}
+use Rattle.chunk_payload_data.specs.Data.{dataFlags, dataSent, identifierNumber, identifierName}
+use Rattle.chunk_payload_data.specs.declared.ChunkPayloadData.{ChunkPayloadData}
 use Rattle.table.specs.Rows.{rowsOf, total}
 use Rattle.table.specs.declared.Row.{Row}
 use Rattle.fragments.specs.Frag.{Frag, longLength}

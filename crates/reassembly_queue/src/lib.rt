@@ -15,7 +15,7 @@ mod room;
 mod take;
 mod unordered;
 
-use chunk::chunk_payload_data::ChunkPayloadData;
+use chunk_payload_data::ChunkPayloadData;
 use chunks::Chunks;
 use chunks::Flag;
 use chunks::Number;

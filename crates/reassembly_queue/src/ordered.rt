@@ -13,7 +13,7 @@ use crate::Pushed;
 use crate::ReassemblyQueue;
 use crate::record;
 use crate::room;
-use chunk::chunk_payload_data::ChunkPayloadData;
+use chunk_payload_data::ChunkPayloadData;
 use chunks::Flag;
 
 // The first fragment of a set, which goes to its place by SSN.

@@ -2,9 +2,8 @@
 ghost use mathlib.Core.Path.{_≡_};
 ghost use Prim.Native.Nat.{_+_, _*_, _<_};
 ghost use Rattle.table.specs.Rows.{row};
-ghost use Rattle.chunk.specs.Data.{dataFlags, dataSent};
-use chunk::chunk_payload_data;
-use chunk::chunk_payload_data::ChunkPayloadData;
+ghost use Rattle.chunk_payload_data.specs.Data.{dataFlags, dataSent};
+use chunk_payload_data::ChunkPayloadData;
 use table::Row;
 
 // With a data length of 24 bits.

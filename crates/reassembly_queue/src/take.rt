@@ -14,7 +14,7 @@ use crate::FRAGMENTS;
 use crate::ReassemblyQueue;
 use crate::Taken;
 use crate::Took;
-use chunk::chunk_payload_data::PayloadProtocolIdentifier;
+use chunk_payload_data::PayloadProtocolIdentifier;
 use chunks::Chunks;
 use fragments::loose::Span;
 

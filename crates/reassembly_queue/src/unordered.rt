@@ -16,7 +16,7 @@ use crate::Pushed;
 use crate::ReassemblyQueue;
 use crate::record;
 use crate::room;
-use chunk::chunk_payload_data::ChunkPayloadData;
+use chunk_payload_data::ChunkPayloadData;
 use chunks::Flag;
 
 // How many bytes the message that an unordered chunk belongs to has besides its own.

@@ -11,7 +11,7 @@ use lib.ListN.{length, length-map}
 use Rattle.wire.specs.Facts.{over-length}
 use Rattle.wire.specs.Refusal.{none, says}
 use Rattle.serial.specs.Serial.{before}
-use Rattle.chunk.specs.declared.chunk_payload_data.ChunkPayloadData.{ChunkPayloadData}
+use Rattle.chunk_payload_data.specs.declared.ChunkPayloadData.{ChunkPayloadData}
 use Rattle.table.specs.Rows.{total}
 use Rattle.fragments.specs.Frag.{Frag, ssnOf, hasTsn, rowOf}
 use Rattle.fragments.specs.Words.{size, joined, any}

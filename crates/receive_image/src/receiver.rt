@@ -1,9 +1,8 @@
 // The receiver: what is acknowledged and what is reassembled, side by side.
 use crate::segment;
 use crate::show;
-use chunk::chunk_payload_data;
-use chunk::chunk_payload_data::ChunkPayloadData;
-use chunk::chunk_payload_data::Unmarshalled;
+use chunk_payload_data::ChunkPayloadData;
+use chunk_payload_data::Unmarshalled;
 use payload_queue::Flag;
 use payload_queue::PayloadQueue;
 use payload_queue::Taken;

@@ -1,8 +1,7 @@
 // A small image, cut into segments of eight bytes, each of which goes into a DATA chunk; and the order in which they arrive.
 use chunk::Marshalled;
-use chunk::chunk_payload_data;
-use chunk::chunk_payload_data::ChunkPayloadData;
-use chunk::chunk_payload_data::PayloadProtocolIdentifier;
+use chunk_payload_data::ChunkPayloadData;
+use chunk_payload_data::PayloadProtocolIdentifier;
 
 pub const STREAM: u16 = 7;
 

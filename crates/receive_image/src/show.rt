@@ -1,7 +1,6 @@
 // What the receiver does, line by line.
 use crate::receiver::Receiver;
 use chunk::Marshalled;
-use chunk::chunk_selective_ack;
 use chunks::Chunks;
 use chunks::Number;
 use payload_queue::LOG;

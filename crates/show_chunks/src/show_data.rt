@@ -1,10 +1,9 @@
 // A DATA chunk, field by field.
 use crate::outcome;
 use chunk::Marshalled;
-use chunk::chunk_payload_data;
-use chunk::chunk_payload_data::ChunkPayloadData;
-use chunk::chunk_payload_data::PayloadProtocolIdentifier;
-use chunk::chunk_payload_data::Unmarshalled;
+use chunk_payload_data::ChunkPayloadData;
+use chunk_payload_data::PayloadProtocolIdentifier;
+use chunk_payload_data::Unmarshalled;
 
 pub fn show(title: &[u8], raw: &[u8]) {
     print::text(title);

@@ -1,7 +1,7 @@
 -- `payload_queue::chunk_of` meets its contract: each field is what the row's words say.
 -- Assumes nothing.
 use borrow.Author.Needs.{needs}
-use Rattle.chunk.specs.Data.{dataHeld, dataShown}
+use Rattle.chunk_payload_data.specs.Data.{dataHeld, dataShown}
 use Rattle.payload_queue.specs.Queue.{chunkOf}
 use Rattle.payload_queue.specs.Answers.{queuedFound}
 use Rattle.payload_queue.proofs.chunk_of.Statement.{statement}

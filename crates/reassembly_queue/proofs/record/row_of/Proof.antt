@@ -1,7 +1,7 @@
 -- `reassembly_queue::record::row_of` meets its contract: each word is put together as the row says.
 -- Assumes nothing.
 use borrow.Author.Needs.{needs}
-use Rattle.chunk.specs.Data.{dataSent}
+use Rattle.chunk_payload_data.specs.Data.{dataSent}
 use Rattle.reassembly_queue.proofs.record.row_of.Statement.{statement}
 use Rattle.reassembly_queue.proofs.record.row_of.Tie as tie
 

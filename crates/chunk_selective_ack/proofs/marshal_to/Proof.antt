@@ -1,0 +1,81 @@
+-- `chunk_selective_ack::marshal_to` meets its contract: what does not fit is refused, and else header, fields, blocks and duplicates stand one behind the other.
+-- Assumes nothing.
+use mathlib.Core.Path.{_≡_, ap, _∙_}
+use mathlib.Core.Bool.{not, _||_, or-true}
+use mathlib.Core.List.{List, [], _∷_, _++_}
+use Prim.Native.Nat.{ℕ, _+_, _*_}
+use borrow.Author.Needs.{needs}
+use borrow.Author.Tests.{lt-ltb, le-ltb, eq-eqb, ne-eqb}
+use native.Mathlib.Omega.{arith}
+use lib.Dec.{ltb, eqb}
+use lib.ListN.{length, length-append}
+use Rattle.wire.specs.BigEndian.{over}
+use Rattle.wire.specs.Refusal.{Check, when}
+use Rattle.wire.proofs.Writing.{behind, write-short, write-done}
+use Rattle.chunk.specs.Layout.{header, headerBytes}
+use Rattle.chunk_selective_ack.specs.Layout.{sack, sackValue, gapBlocks, duplicateTsns, sackChunk}
+use Rattle.chunk_selective_ack.specs.Sack.{sackWritten}
+use Rattle.chunk.proofs.Headers.{header-length}
+use Rattle.chunk_selective_ack.proofs.SackBytes.{blocks-length, sack-value-length, sack-chunk-length, sack-chunk-parts}
+use Rattle.chunk_selective_ack.proofs.marshal_to.Statement.{statement}
+use Rattle.chunk_selective_ack.proofs.marshal_to.Tie as tie
+
+many : tie.Need-returns
+unfolding sackWritten
+many c = rw (lt-ltb 16379 _ (c .if1 .taken))
+
+unequal : tie.Need-returns-2
+unfolding sackWritten
+unequal c = rw (ne-eqb _ _ (c .if2 .taken), or-true)
+
+abbrev nine : List ℕ → List ℕ → List ℕ → List Check
+nine starts ends duplicates = when (ltb 16379 (length starts + length duplicates) || not (eqb (length starts) (length ends))) 9 ∷ []
+
+short : tie.Need-returns-3
+unfolding sackWritten
+short c =
+    let two = c .before in
+    let one = two .before in
+    let a = one .before .before .before .before .before .args in
+    let starts = a .starts .now in
+    let ends = a .ends .now in
+    let duplicates = a .duplicates .now in
+    write-short (nine starts ends duplicates) (sackChunk 0 (a .cumulative) (a .window) starts ends duplicates []) (a .out .now)
+    (rw (le-ltb 16379 _ (one .if1 .left), eq-eqb _ _ (two .if2 .left)))
+    (sack-chunk-length (a .cumulative) (a .window) starts ends duplicates (two .if2 .left)) (c .if3 .taken)
+
+done : tie.Need-returns-4
+unfolding sackWritten
+done c =
+    let t = c .before .before in
+    let b = t .before .before .before .before in
+    let v = b .before .before .before .before in
+    let h = v .before .before .before .before in
+    let three = h .before .before in
+    let two = three .before in
+    let one = two .before in
+    let a = one .before .before .before .before .before .args in
+    let out = a .out .now in
+    let starts = a .starts .now in
+    let ends = a .ends .now in
+    let duplicates = a .duplicates .now in
+    let same = two .if2 .left in
+    let head = headerBytes (header 3 0 (16 + 4 * length starts + 4 * length duplicates)) in
+    let value = sackValue (sack (a .cumulative) (a .window) (length starts) (length duplicates)) in
+    let fields = behind out head value 4 (header-length _) (h .marshal-to .ensures) (v .put-fields .ensures) in
+    let blocks = behind out (head ++ value) (gapBlocks starts ends) 16 (simp (length-append, header-length, sack-value-length)) fields (b .put-blocks .ensures) in
+    let long : length ((head ++ value) ++ gapBlocks starts ends) ≡ 16 + 4 * length starts = simp (length-append, header-length, sack-value-length) (omega (arith, blocks-length starts ends same)) in
+    let all = behind out ((head ++ value) ++ gapBlocks starts ends) (duplicateTsns duplicates) (16 + 4 * length starts) long blocks (t .put-tsns .ensures) in
+    write-done (nine starts ends duplicates) (sackChunk 0 (a .cumulative) (a .window) starts ends duplicates []) out
+    (rw (le-ltb 16379 _ (one .if1 .left), eq-eqb _ _ same))
+    (sack-chunk-length (a .cumulative) (a .window) starts ends duplicates same) (three .if3 .left)
+    (all ∙ ap (over out) (sack-chunk-parts (a .cumulative) (a .window) starts ends duplicates same))
+
+pub marshal-to-spec : {M : Type 1} → statement M
+marshal-to-spec =
+    tie.close
+    (tie.spec (λ c. search needs) many unequal (λ c. search needs) (λ c. search needs) (λ c. search needs) (λ c. search needs) short
+    (λ c. search needs) (λ c κs. search needs) (λ c. search needs) (λ c. search needs) (λ c. search needs)
+    (λ c. search needs) (λ c. search needs) (λ c κs. search needs) (λ c. search needs) (λ c. search needs) (λ c. search needs)
+    (λ c κs. search needs) (λ c. search needs) (λ c. search needs) (λ c. search needs) (λ c κs. search needs)
+    (λ c. search needs) done)
