@@ -51,16 +51,7 @@ fn refused(k: usize) -> Answer {
 }
 
 pub fn same(got: Answer, want: Answer) -> bool {
-    if got.kind != want.kind {
-        return false;
-    }
-    if got.a != want.a {
-        return false;
-    }
-    if got.b != want.b {
-        return false;
-    }
-    got.c == want.c
+    (got.kind == want.kind) & (got.a == want.a) & (got.b == want.b) & (got.c == want.c)
 }
 
 // ── what a script says ──
@@ -71,9 +62,14 @@ pub fn words(line: &[u8]) -> &[u8] {
     text::rest(line, std::num::wrapping_add_usize(at, 2))
 }
 
+// The kind that a word names; REFUSED or above where it names none.
+pub fn named(word: &[u8]) -> usize {
+    text::index_of(b"false true stored none ok", word)
+}
+
 pub fn wanted(line: &[u8]) -> Answer {
     let said = words(line);
-    let kind = text::index_of(b"false true stored none ok", text::word(said, 0));
+    let kind = named(text::word(said, 0));
     if kind < REFUSED {
         return plain(kind);
     }

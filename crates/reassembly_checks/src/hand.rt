@@ -70,6 +70,5 @@ fn position(run: Run, line: &[u8]) -> Run {
     let message = run.message;
     let at = text::number_at(line, 1);
     let given = check::same(text::word(line, 2), b"true");
-    let run = run::passed(run, message.position == at);
-    run::passed(run, message.given == given)
+    run::passed(run, (message.position == at) & (message.given == given))
 }

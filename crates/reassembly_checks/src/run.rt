@@ -79,55 +79,25 @@ pub fn more_held(before: ReassemblyQueue, after: ReassemblyQueue) -> bool {
 
 // Does the queue hold one fragment more, of so many bytes, and is it else the same?
 pub fn is_grown(before: ReassemblyQueue, after: ReassemblyQueue, size: usize) -> bool {
-    if held(after) != std::num::wrapping_add_usize(held(before), 1) {
-        return false;
-    }
-    if after.n_bytes != std::num::wrapping_add_usize(before.n_bytes, size) {
-        return false;
-    }
-    same_stream(before, after)
+    let fragments = std::num::wrapping_add_usize(held(before), 1);
+    let bytes = std::num::wrapping_add_usize(before.n_bytes, size);
+    (held(after) == fragments) & (after.n_bytes == bytes) & same_stream(before, after)
 }
 
 fn same_stream(a: ReassemblyQueue, b: ReassemblyQueue) -> bool {
-    if a.si != b.si {
-        return false;
-    }
-    if a.next_ssn != b.next_ssn {
-        return false;
-    }
-    a.max_message_size == b.max_message_size
+    (a.si == b.si) & (a.next_ssn == b.next_ssn) & (a.max_message_size == b.max_message_size)
 }
 
 pub fn same_queue(a: ReassemblyQueue, b: ReassemblyQueue) -> bool {
-    if a.finished != b.finished {
-        return false;
-    }
-    if a.unordered != b.unordered {
-        return false;
-    }
-    if a.ordered != b.ordered {
-        return false;
-    }
-    if a.n_bytes != b.n_bytes {
-        return false;
-    }
-    same_stream(a, b)
+    let fragments = (a.finished == b.finished)
+        & (a.unordered == b.unordered)
+        & (a.ordered == b.ordered);
+    fragments & (a.n_bytes == b.n_bytes) & same_stream(a, b)
 }
 
 pub fn same_message(a: Chunks, b: Chunks) -> bool {
-    if a.ssn != b.ssn {
-        return false;
-    }
     let ppi = a.ppi;
     let other = b.ppi;
-    if ppi.to_u32() != other.to_u32() {
-        return false;
-    }
-    if a.size != b.size {
-        return false;
-    }
-    if a.position != b.position {
-        return false;
-    }
-    a.given == b.given
+    let named = (a.ssn == b.ssn) & (ppi.to_u32() == other.to_u32());
+    named & (a.size == b.size) & (a.position == b.position) & (a.given == b.given)
 }

@@ -1,4 +1,5 @@
 // The commands of a script: their names, and the shapes of the words behind a name.
+use crate::answer;
 use crate::text;
 
 // By place in the two lists below.
@@ -51,6 +52,8 @@ pub const UNKNOWN: usize = 22;
 const NAMES: [u8; 138] =
     *b"new fill pool byte set row hand counts push pushes readable take take skip_ordered skip_unordered bytes len empty whole position next next";
 
+// A letter for each word: n a number, h a byte, b bytes, f flags, w a field, g false or true, = itself; and what an answer says in one word,
+// or a refusal: t of a push, q yes or no, a that nothing comes, k that all was done, d a number.
 const SHAPES: [u8; 95] =
     *b"nn h n nh wn nnnnn nngn nnnnn fnnnnb=t fnnnnnb=t =q n=a n=nnb n=k n=k =d =d =q n=db ng n=a n=nn";
 
@@ -99,58 +102,39 @@ fn is_a(w: &[u8], letter: u8) -> bool {
     }
 }
 
-// What an answer says in one word; each may be a refusal, but not the truth of a message.
 fn is_answer(w: &[u8], letter: u8) -> bool {
-    if letter == b'g' {
-        return text::among(b"false true", w);
-    }
     if is_refusal(w) {
-        return true;
+        return letter != b'g';
     }
+    let kind = answer::named(w);
     match letter {
-        b't' => text::among(b"false true stored", w),
-        b'q' => text::among(b"false true", w),
-        b'a' => text::among(b"none", w),
-        b'k' => text::among(b"ok", w),
+        b't' => kind <= answer::STORED,
+        b'q' => kind <= answer::TRUE,
+        b'g' => kind <= answer::TRUE,
+        b'a' => kind == answer::NOTHING,
+        b'k' => kind == answer::DONE,
         _ => is_number(w),
     }
 }
 
 fn is_number(w: &[u8]) -> bool {
-    if w.len() == 0 {
-        return false;
-    }
-    if 20 < w.len() {
-        return false;
-    }
-    text::all_below(w, 10)
+    (0 < w.len()) & (w.len() <= 20) & text::all_below(w, 10)
 }
 
 fn is_byte(w: &[u8]) -> bool {
-    if w.len() != 2 {
-        return false;
-    }
-    text::all_below(w, 16)
+    (w.len() == 2) & text::all_below(w, 16)
 }
 
 fn is_bytes(w: &[u8]) -> bool {
     let x = text::find(w, 0, b'x');
     if x < w.len() {
-        if is_number(text::part(w, 0, x)) {
-            return is_byte(text::rest(w, x + 1));
-        }
-        return false;
+        return is_number(text::part(w, 0, x)) & is_byte(text::rest(w, x + 1));
     }
-    if check::same(w, b"-") {
-        return true;
-    }
-    if w.len() == 0 {
-        return false;
-    }
-    if w.len() % 2 != 0 {
-        return false;
-    }
-    text::all_below(w, 16)
+    is_hex(w) | check::same(w, b"-")
+}
+
+fn is_hex(w: &[u8]) -> bool {
+    (0 < w.len()) & (w.len() % 2 == 0) & text::all_below(w, 16)
 }
 
 fn is_flags(w: &[u8]) -> bool {
@@ -163,8 +147,5 @@ fn is_field(w: &[u8]) -> bool {
 }
 
 fn is_refusal(w: &[u8]) -> bool {
-    if text::at(w, 0) != b'r' {
-        return false;
-    }
-    is_number(text::rest(w, 1))
+    (text::at(w, 0) == b'r') & is_number(text::rest(w, 1))
 }

@@ -107,10 +107,7 @@ pub fn end(t: Tally, behind: &[u8]) -> Tally {
 
 // Did every line whose expectation is wrong on purpose fail, and is there one?
 fn is_each_caught(t: Tally) -> bool {
-    if t.wrong == 0 {
-        return false;
-    }
-    t.missed == 0
+    (0 < t.wrong) & (t.missed == 0)
 }
 
 // The last lines.
