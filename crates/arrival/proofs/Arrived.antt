@@ -12,7 +12,7 @@ use Rattle.fragments.specs.Frag.{Frag, hasSsn}
 use Rattle.fragments.specs.Words.{size, joined}
 use Rattle.fragments.specs.Sets.{complete}
 use Rattle.reassembly_queue.specs.Model.{Queue, queue, held, roomFor, readable}
-use Rattle.arrival.specs.Plan.{Msg, Cut, Ordered, Piece-of, chunk, fragsOf, chunksOf, Message, message, inOrder, Event, Push, Take, pushes, afterTake, final, out, Roomy, Order, none-left, one-of, Merge, neither, left, right, Came, starts, Unrefused}
+use Rattle.arrival.specs.Plan.{Msg, Cut, Ordered, Carried, chunk, fragsOf, chunksOf, Message, message, inOrder, Event, Push, Take, pushes, afterTake, final, out, Roomy, Order, none-left, one-of, Merge, neither, left, right, Came, starts, Unrefused}
 use Rattle.arrival.proofs.Lists.{Is}
 use Rattle.arrival.proofs.Shape.{Mark, came, due, all-of, arrived, missing, Done, Open, done-or-open, done-all, done-missing, length-all, complete-done, complete-open}
 use Rattle.arrival.proofs.Pushes.{Enters}
@@ -94,7 +94,7 @@ module _ (si base max : ℕ) where
 
   abbrev Runs : List Event → Type 0
   Runs es =
-      (n : ℕ) (os us : List Part) (fin : List Msg) → Sound n os us fin → Order Piece-of (pushes es) (chunks (missing-of os) (missing-of us))
+      (n : ℕ) (os us : List Part) (fin : List Msg) → Sound n os us fin → Order Carried (pushes es) (chunks (missing-of os) (missing-of us))
       → Good es n (map msg os) (map msg us) fin (state n os us fin)
 
   -- ── a take ──
@@ -140,7 +140,7 @@ module _ (si base max : ℕ) where
       go (inl d) =
           by-take es n (map msg (p ∷ os)) (map msg us) [] (state n (p ∷ os) us []) (message n (msg p) ∷ []) (state (suc n) os us []) (took-whole n p os us s d)
           (λ r.
-          let z : Order Piece-of (pushes es) (chunks (missing-of os) (missing-of us)) = rw (done-missing (p .marks) d) at o in
+          let z : Order Carried (pushes es) (chunks (missing-of os) (missing-of us)) = rw (done-missing (p .marks) d) at o in
           let h = ih (suc n) os us [] (record { few = omega (arith, s .few); ordered = s .ordered .2; unordered = s .unordered; opens = s .opens; cuts = tt }) z r in
           (h .0, λ t. let e = h .1 t in record { loose = e .loose; some-order = e .some-order; merged = left (e .merged); nothing-held = e .nothing-held }))
       go (inr d) =
@@ -148,7 +148,7 @@ module _ (si base max : ℕ) where
 
   -- ── a push ──
 
-  by-push : (es : List Event) (n : ℕ) (os us fin : List Msg) (q : Queue) (c : Piece-of) (k : Queue) → (roomFor q (c .frag) ≡ true → Enters q c k)
+  by-push : (es : List Event) (n : ℕ) (os us fin : List Msg) (q : Queue) (c : Carried) (k : Queue) → (roomFor q (c .frag) ≡ true → Enters q c k)
       → Good es n os us fin k → Good (Push c ∷ es) n os us fin q
   by-push es n os us fin q c k e g r =
       let i = e (r .0) in
@@ -156,7 +156,7 @@ module _ (si base max : ℕ) where
       ((i .quiet, h .0), h .1)
 
   push-set : (es : List Event) → Runs es → (n : ℕ) (a : List Part) (o i : ℕ) (u : List Mark) (f : Frag) (v : List Mark) (b us : List Part) (fin : List Msg)
-      → Sound n (was a o i u f v b) us fin → Order Piece-of (pushes es) (chunks (missing-of (is a o i u f v b)) (missing-of us))
+      → Sound n (was a o i u f v b) us fin → Order Carried (pushes es) (chunks (missing-of (is a o i u f v b)) (missing-of us))
       → Good (Push (chunk false f) ∷ es) n (map msg (was a o i u f v b)) (map msg us) fin (state n (was a o i u f v b) us fin)
   push-set es ih n a o i u f v b us fin s k =
       let y = length-append a (part o i (u ++ due f ∷ v) ∷ b) in
@@ -190,7 +190,7 @@ module _ (si base max : ℕ) where
   )
 
   push-loose : (es : List Event) → Runs es → (n : ℕ) (a : List Part) (o i : ℕ) (u : List Mark) (f : Frag) (v : List Mark) (b os : List Part) (fin : List Msg)
-      → Sound n os (was a o i u f v b) fin → Order Piece-of (pushes es) (chunks (missing-of os) (missing-of (is a o i u f v b)))
+      → Sound n os (was a o i u f v b) fin → Order Carried (pushes es) (chunks (missing-of os) (missing-of (is a o i u f v b)))
       → Good (Push (chunk true f) ∷ es) n (map msg os) (map msg (was a o i u f v b)) fin (state n os (was a o i u f v b) fin)
   push-loose es ih n a o i u f v b os fin s k = go (done-or-open (u ++ came f ∷ v))
     where
@@ -216,8 +216,8 @@ module _ (si base max : ℕ) where
       go (inl d) =
           let e : fragsOf fin ++ arrived (u ++ came f ∷ v) ≡ fragsOf (fin ++ (m ∷ [])) =
           ap (λ (l : List Frag). fragsOf fin ++ l) (done-all (u ++ came f ∷ v) d) ∙ sym (frags-snoc fin m) in
-          let z : Order Piece-of (pushes es) (chunks (missing-of os) (missing-of (a ++ b))) =
-          subst (λ (l : List Frag). Order Piece-of (pushes es) (chunks (missing-of os) l)) (none-missing a (part o i (u ++ came f ∷ v)) b (done-missing (u ++ came f ∷ v) d)) k in
+          let z : Order Carried (pushes es) (chunks (missing-of os) (missing-of (a ++ b))) =
+          subst (λ (l : List Frag). Order Carried (pushes es) (chunks (missing-of os) l)) (none-missing a (part o i (u ++ came f ∷ v)) b (done-missing (u ++ came f ∷ v) d)) k in
           let g = ih n os (a ++ b) (fin ++ (m ∷ []))
           (record {
             few = s .few;
@@ -232,25 +232,25 @@ module _ (si base max : ℕ) where
           (subst (λ (l : List Msg). Good es n (map msg os) l fin (state n os (a ++ b) (fin ++ (m ∷ [])))) (sym (map-append msg a (part o i (u ++ came f ∷ v) ∷ b)) ∙ same-msgs o i u f v a b)
           (finish-one es n (map msg os) (map msg a) m (map msg b) fin (state n os (a ++ b) (fin ++ (m ∷ []))) (rw map-append at g)))
 
-  push-step : (c : Piece-of) (es : List Event) → Runs es → Runs (Push c ∷ es)
+  push-step : (c : Carried) (es : List Event) → Runs es → Runs (Push c ∷ es)
   push-step c es ih n os us fin s o = let k = order-cons o in go k (at-chunks (missing-of os) (missing-of us) (k .front) c (k .back) (k .is))
     where
-      go : (k : Picked Piece-of c (pushes es) (chunks (missing-of os) (missing-of us)))
+      go : (k : Picked Carried c (pushes es) (chunks (missing-of os) (missing-of us)))
           → At (chunk false) c (missing-of os) (λ (r : List Frag). chunks r (missing-of us)) (k .front ++ k .back)
           ⊎ At (chunk true) c (missing-of us) (λ (r : List Frag). chunks (missing-of os) r) (k .front ++ k .back)
           → Good (Push c ∷ es) n (map msg os) (map msg us) fin (state n os us fin)
       go k (inl h) =
           let w = in-parts os (h .front) (h .it) (h .back) (h .is) in
-          subst (λ (d : Piece-of). Good (Push d ∷ es) n (map msg os) (map msg us) fin (state n os us fin)) (sym (h .chunk-is))
+          subst (λ (d : Carried). Good (Push d ∷ es) n (map msg os) (map msg us) fin (state n os us fin)) (sym (h .chunk-is))
           (subst (λ (l : List Part). Good (Push (chunk false (h .it)) ∷ es) n (map msg l) (map msg us) fin (state n l us fin)) (sym (w .before))
           (push-set es ih n (w .a) (w .o) (w .i) (w .u) (h .it) (w .v) (w .b) us fin (subst (λ (l : List Part). Sound n l us fin) (w .before) s)
-          (subst (λ (l : List Frag). Order Piece-of (pushes es) (chunks l (missing-of us))) (sym (w .after)) (subst (λ (l : List Piece-of). Order Piece-of (pushes es) l) (h .others-are) (k .others)))))
+          (subst (λ (l : List Frag). Order Carried (pushes es) (chunks l (missing-of us))) (sym (w .after)) (subst (λ (l : List Carried). Order Carried (pushes es) l) (h .others-are) (k .others)))))
       go k (inr h) =
           let w = in-parts us (h .front) (h .it) (h .back) (h .is) in
-          subst (λ (d : Piece-of). Good (Push d ∷ es) n (map msg os) (map msg us) fin (state n os us fin)) (sym (h .chunk-is))
+          subst (λ (d : Carried). Good (Push d ∷ es) n (map msg os) (map msg us) fin (state n os us fin)) (sym (h .chunk-is))
           (subst (λ (l : List Part). Good (Push (chunk true (h .it)) ∷ es) n (map msg os) (map msg l) fin (state n os l fin)) (sym (w .before))
           (push-loose es ih n (w .a) (w .o) (w .i) (w .u) (h .it) (w .v) (w .b) os fin (subst (λ (l : List Part). Sound n os l fin) (w .before) s)
-          (subst (λ (l : List Frag). Order Piece-of (pushes es) (chunks (missing-of os) l)) (sym (w .after)) (subst (λ (l : List Piece-of). Order Piece-of (pushes es) l) (h .others-are) (k .others)))))
+          (subst (λ (l : List Frag). Order Carried (pushes es) (chunks (missing-of os) l)) (sym (w .after)) (subst (λ (l : List Carried). Order Carried (pushes es) l) (h .others-are) (k .others)))))
 
   -- ── the end ──
 
@@ -323,7 +323,7 @@ due-open base max o (m ∷ ms) h = (dues-open base (m .first) (m .ppi) (m .frags
 
 -- arrival order does not matter, where the unordered messages are listed as they lie in the arc
 pub arrival-listed : (si base max : ℕ) (os us : List Msg) → length os ≤ 32767 → Ordered base max 0 os → Listed base max 0 us
-    → (es : List Event) → Order Piece-of (pushes es) (chunksOf os us) → Roomy (starts si max) es
+    → (es : List Event) → Order Carried (pushes es) (chunksOf os us) → Roomy (starts si max) es
     → Unrefused (starts si max) es × (readable (final (starts si max) es) ≡ false → Came os us (out (starts si max) es) (final (starts si max) es))
 arrival-listed si base max os us few ho hu es o r =
     let s : Sound si base max 0 (all-due os) (all-due us) [] =
@@ -334,7 +334,7 @@ arrival-listed si base max os us few ho hu es o r =
       opens = due-open base max 0 us hu;
       cuts = tt;
     } in
-    let y : Order Piece-of (pushes es) (chunks (missing-of (all-due os)) (missing-of (all-due us))) = rw (due-missing os, due-missing us) o in
+    let y : Order Carried (pushes es) (chunks (missing-of (all-due os)) (missing-of (all-due us))) = rw (due-missing os, due-missing us) o in
     let g = arrives si base max es 0 (all-due os) (all-due us) [] s y in
     let h : Good si base max es 0 os us [] (starts si max) = rw (due-msgs os, due-msgs us, due-held os, due-held us) at g in (
       h r .0,

@@ -191,7 +191,7 @@ events (Take b ∷ cs) = model.Take ∷ events cs
 
 pub event-pushes : (calls : List Call) → model.pushes (events calls) ≡ map pieceOf (pushes calls)
 event-pushes [] = refl
-event-pushes (Push c ∷ cs) = ap (λ (l : List model.Piece-of). pieceOf c ∷ l) (event-pushes cs)
+event-pushes (Push c ∷ cs) = ap (λ (l : List model.Carried). pieceOf c ∷ l) (event-pushes cs)
 event-pushes (Take b ∷ cs) = event-pushes cs
 
 module _ {s : State} {q : Queue} (h : Holds s q) (b : List ℕ) where

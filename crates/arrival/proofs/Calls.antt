@@ -77,7 +77,7 @@ long-front s (Take b ∷ cs) ds l = (l .0, long-front _ cs ds (l .1))
 abbrev pub Never-refused : Type 0
 Never-refused =
     (si base max : ℕ) (os us : List model.Msg) → model.Plan base max os us
-    → (es : List model.Event) → model.Order model.Piece-of (model.pushes es) (model.chunksOf os us)
+    → (es : List model.Event) → model.Order model.Carried (model.pushes es) (model.chunksOf os us)
     → model.Roomy (model.starts si max) es
     → model.Unrefused (model.starts si max) es
 
@@ -98,7 +98,7 @@ module _ (si base max : ℕ) (os us : List Sent) (plan : Plan si base max os us)
     here : Walked start begins cs
     here = walked cs of (run .room) (run .long)
 
-    once : model.Order model.Piece-of (model.pushes (events cs)) (model.chunksOf (map cutOf os) (map cutOf us))
+    once : model.Order model.Carried (model.pushes (events cs)) (model.chunksOf (map cutOf os) (map cutOf us))
     once = rw (event-pushes cs, ← (plan-pieces si base max plan)) (order-map pieceOf (run .once))
 
     module _ (arrival : model.Arrival) (never : Never-refused) (until : isReadable (ran start cs) ≡ says none false) where

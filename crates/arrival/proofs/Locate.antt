@@ -6,7 +6,7 @@ use mathlib.Core.List.{List, [], _∷_, _++_, map, append-assoc, nil≢cons, hea
 use mathlib.Core.Logic.{_⊎_, inl, inr}
 use Prim.Native.Nat.{ℕ}
 use Rattle.fragments.specs.Frag.{Frag}
-use Rattle.arrival.specs.Plan.{Piece-of, chunk, Order, none-left, one-of}
+use Rattle.arrival.specs.Plan.{Carried, chunk, Order, none-left, one-of}
 use Rattle.arrival.proofs.Shape.{Mark, came, due, missing}
 use Rattle.arrival.proofs.Loose.{Part, part, missing-of, was, is}
 
@@ -31,7 +31,7 @@ no-nil : {A : Type 0} (xs : List A) (a : A) (ys : List A) → _≡_ {A = List A}
 no-nil [] a ys e = nil≢cons e
 no-nil (x ∷ xs) a ys e = nil≢cons e
 
-pub record At (g : Frag → Piece-of) (c : Piece-of) (l : List Frag) (whole : List Frag → List Piece-of) (others : List Piece-of) : Type 0 where
+pub record At (g : Frag → Carried) (c : Carried) (l : List Frag) (whole : List Frag → List Carried) (others : List Carried) : Type 0 where
   pub front : List Frag
   pub it : Frag
   pub back : List Frag
@@ -39,7 +39,7 @@ pub record At (g : Frag → Piece-of) (c : Piece-of) (l : List Frag) (whole : Li
   pub chunk-is : c ≡ g it
   pub others-are : others ≡ whole (front ++ back)
 
-at-map : (g : Frag → Piece-of) (l : List Frag) (xs : List Piece-of) (c : Piece-of) (ys : List Piece-of) → map g l ≡ xs ++ c ∷ ys → At g c l (λ (r : List Frag). map g r) (xs ++ ys)
+at-map : (g : Frag → Carried) (l : List Frag) (xs : List Carried) (c : Carried) (ys : List Carried) → map g l ≡ xs ++ c ∷ ys → At g c l (λ (r : List Frag). map g r) (xs ++ ys)
 at-map g [] xs c ys e = absurd (no-nil xs c ys e)
 at-map g (f ∷ l) [] c ys e = record { front = []; it = f; back = l; is = refl; chunk-is = sym (head-eq-of-cons-eq e); others-are = sym (tail-eq-of-cons-eq e) }
 at-map g (f ∷ l) (x ∷ xs) c ys e =
@@ -54,10 +54,10 @@ at-map g (f ∷ l) (x ∷ xs) c ys e =
     }
 
 -- the chunks of a plan, by the fragments of its two kinds
-abbrev pub chunks : List Frag → List Frag → List Piece-of
+abbrev pub chunks : List Frag → List Frag → List Carried
 chunks os us = map (chunk false) os ++ map (chunk true) us
 
-pub at-chunks : (os us : List Frag) (xs : List Piece-of) (c : Piece-of) (ys : List Piece-of) → chunks os us ≡ xs ++ c ∷ ys
+pub at-chunks : (os us : List Frag) (xs : List Carried) (c : Carried) (ys : List Carried) → chunks os us ≡ xs ++ c ∷ ys
     → At (chunk false) c os (λ (r : List Frag). chunks r us) (xs ++ ys) ⊎ At (chunk true) c us (λ (r : List Frag). chunks os r) (xs ++ ys)
 at-chunks [] us xs c ys e = inr (at-map (chunk true) us xs c ys e)
 at-chunks (f ∷ os) us [] c ys e = inl (record { front = []; it = f; back = os; is = refl; chunk-is = sym (head-eq-of-cons-eq e); others-are = sym (tail-eq-of-cons-eq e) })

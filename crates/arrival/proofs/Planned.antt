@@ -25,7 +25,7 @@ use Rattle.arrival.proofs.Maps.{map-append, Each, each-append}
 abbrev pub fragOf : Chunk → Frag
 fragOf c = fragmentOf (c .fields) (c .bytes)
 
-abbrev pub pieceOf : Chunk → model.Piece-of
+abbrev pub pieceOf : Chunk → model.Carried
 pieceOf c = model.chunk (c .fields .unordered) (fragOf c)
 
 abbrev pub cutOf : Sent → model.Msg

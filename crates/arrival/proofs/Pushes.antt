@@ -17,19 +17,19 @@ use Rattle.fragments.specs.Words.{size, any, placed}
 use Rattle.fragments.specs.Sets.{setOf, complete, grownSet, stored}
 use Rattle.fragments.specs.Loose.{reach}
 use Rattle.reassembly_queue.specs.Model.{Queue, queue, roomFor, Given, gives, withOrdered, keepOrdered, pushOrdered, moveRun, keepLoose, pushUnordered, push}
-use Rattle.arrival.specs.Plan.{Piece-of, chunk, afterPush}
+use Rattle.arrival.specs.Plan.{Carried, chunk, afterPush}
 use Rattle.arrival.proofs.Scans.{Scan, nothing, found, seek, spanned, scan-seeks}
 
 -- the push of a chunk of the queue's stream
-abbrev pushed : Queue → Piece-of → Given Bool
+abbrev pushed : Queue → Carried → Given Bool
 pushed q c = push (roomFor q (c .frag)) q (q .si) (c .unordered) (c .frag)
 
 -- it is not refused, and leaves k
-pub record Enters (q : Queue) (c : Piece-of) (k : Queue) : Type 0 where
+pub record Enters (q : Queue) (c : Carried) (k : Queue) : Type 0 where
   pub quiet : pushed q c .told .refusal ≡ none
   pub after : afterPush q c ≡ k
 
-enters : (q : Queue) (c : Piece-of) (t : Bool) (k : Queue) → pushed q c ≡ gives (says none t) k → Enters q c k
+enters : (q : Queue) (c : Carried) (t : Bool) (k : Queue) → pushed q c ≡ gives (says none t) k → Enters q c k
 enters q c t k e = record { quiet = ap (λ (g : Given Bool). g .told .refusal) e; after = ap (λ (g : Given Bool). g .queue) e }
 
 -- ── an ordered chunk ──

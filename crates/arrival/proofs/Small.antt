@@ -13,7 +13,7 @@ use Rattle.fragments.specs.Words.{size, joined, any, while, past, find, placed}
 use Rattle.fragments.specs.Sets.{setOf, rises, complete, joins, grownSet, stored}
 use Rattle.fragments.specs.Loose.{runs, run, reach, startsBy, scan}
 use Rattle.reassembly_queue.specs.Model.{queue, roomFor, keepOrdered, pushOrdered, moveRun, keepLoose, pushUnordered, push, readySet, movedOn, firstSsn, firstPpi, orderedTurn, finishedTurn, turn, readable}
-use Rattle.arrival.specs.Plan.{Msg, tsnAt, Plan, Piece-of, chunk, chunksOf, Event, Push, Take, pushes, final, out, Order, none-left, one-of, Came, starts, Unrefused}
+use Rattle.arrival.specs.Plan.{Msg, tsnAt, Plan, Carried, chunk, chunksOf, Event, Push, Take, pushes, final, out, Order, none-left, one-of, Came, starts, Unrefused}
 use Rattle.arrival.proofs.Whole.{arrival, unrefused}
 
 -- of stream 7, with identifier 51
@@ -66,14 +66,14 @@ small-plan =
       );
     }
 
-any-order : Order Piece-of (pushes calls) (chunksOf os us)
+any-order : Order Carried (pushes calls) (chunksOf os us)
 any-order =
-    let c : Piece-of = chunk false (frag 4294967294 0 true true []) in
-    let d : Piece-of = chunk false (frag 1 1 true false (67 ∷ [])) in
-    let e : Piece-of = chunk false (frag 2 1 false false (68 ∷ [])) in
-    let f : Piece-of = chunk false (frag 3 1 false true (69 ∷ [])) in
-    let g : Piece-of = chunk true (frag 4294967295 8 true false (65 ∷ [])) in
-    let h : Piece-of = chunk true (frag 0 9 false true (66 ∷ [])) in
+    let c : Carried = chunk false (frag 4294967294 0 true true []) in
+    let d : Carried = chunk false (frag 1 1 true false (67 ∷ [])) in
+    let e : Carried = chunk false (frag 2 1 false false (68 ∷ [])) in
+    let f : Carried = chunk false (frag 3 1 false true (69 ∷ [])) in
+    let g : Carried = chunk true (frag 4294967295 8 true false (65 ∷ [])) in
+    let h : Carried = chunk true (frag 0 9 false true (66 ∷ [])) in
     one-of (c ∷ d ∷ e ∷ []) f (g ∷ h ∷ [])
     (one-of (c ∷ d ∷ e ∷ g ∷ []) h [] (one-of (c ∷ []) d (e ∷ g ∷ []) (one-of (c ∷ e ∷ []) g [] (one-of (c ∷ []) e [] (one-of [] c [] none-left)))))
 

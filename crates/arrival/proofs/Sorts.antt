@@ -11,7 +11,7 @@ use lib.ListN.{length}
 use borrow.Author.Tests.{leb-true, leb-false}
 use Rattle.fragments.specs.Frag.{Frag}
 use Rattle.reassembly_queue.specs.Model.{readable}
-use Rattle.arrival.specs.Plan.{Msg, Cut, Whole, Apart, Unordered, Plan, Piece-of, chunk, fragsOf, chunksOf, Message, message, Event, pushes, final, out, Roomy, Order, none-left, one-of, Came, starts, Unrefused}
+use Rattle.arrival.specs.Plan.{Msg, Cut, Whole, Apart, Unordered, Plan, Carried, chunk, fragsOf, chunksOf, Message, message, Event, pushes, final, out, Roomy, Order, none-left, one-of, Came, starts, Unrefused}
 use Rattle.arrival.proofs.Loose.{Listed}
 use Rattle.arrival.proofs.Arrived.{append-nil-both, arrival-listed}
 
@@ -181,7 +181,7 @@ module _ {A : Type 0} (g : Msg → List A) where
 flat-chunks : (l : List Msg) → map (chunk true) (fragsOf l) ≡ flat (λ (m : Msg). map (chunk true) (m .frags)) l
 unfolding flat
 flat-chunks [] = refl
-flat-chunks (m ∷ l) = map-append (chunk true) (m .frags) (fragsOf l) ∙ ap (λ (r : List Piece-of). map (chunk true) (m .frags) ++ r) (flat-chunks l)
+flat-chunks (m ∷ l) = map-append (chunk true) (m .frags) (fragsOf l) ∙ ap (λ (r : List Carried). map (chunk true) (m .frags) ++ r) (flat-chunks l)
 
 flat-messages : (l : List Msg) → map (message 0) l ≡ flat (λ (m : Msg). message 0 m ∷ []) l
 unfolding flat
@@ -189,10 +189,10 @@ flat-messages [] = refl
 flat-messages (m ∷ l) = ap (λ (r : List Message). message 0 m ∷ r) (flat-messages l)
 
 -- no push is refused, and once nothing is readable everything came out
-pub arrives-all : (si base max : ℕ) (os us : List Msg) → Plan base max os us → (es : List Event) → Order Piece-of (pushes es) (chunksOf os us) → Roomy (starts si max) es
+pub arrives-all : (si base max : ℕ) (os us : List Msg) → Plan base max os us → (es : List Event) → Order Carried (pushes es) (chunksOf os us) → Roomy (starts si max) es
     → Unrefused (starts si max) es × (readable (final (starts si max) es) ≡ false → Came os us (out (starts si max) es) (final (starts si max) es))
 arrives-all si base max os us plan es o r =
-    let k : Order Piece-of (pushes es) (chunksOf os (sorted us)) =
+    let k : Order Carried (pushes es) (chunksOf os (sorted us)) =
     rw (flat-chunks (sorted us)) (sorted-flat (λ (m : Msg). map (chunk true) (m .frags)) (pushes es) (map (chunk false) (fragsOf os)) us (rw (flat-chunks us) at o)) in
     let a = arrival-listed si base max os (sorted us) (plan .few) (plan .ordered) (listed-sorted base max us (plan .unordered)) es k r in (
       a .0,

@@ -80,18 +80,18 @@ pub record Plan (base max : ℕ) (os us : List Msg) : Type 0 where
 -- ── its chunks, and its messages ──
 
 -- a chunk of the stream: its mark U, and its fragment
-pub record Piece-of : Type 0 where
+pub record Carried : Type 0 where
   pub unordered : Bool
   pub frag : Frag
 
-abbrev pub chunk : Bool → Frag → Piece-of
+abbrev pub chunk : Bool → Frag → Carried
 chunk u f = record { unordered = u; frag = f }
 
 abbrev pub fragsOf : List Msg → List Frag
 fragsOf [] = []
 fragsOf (m ∷ ms) = m .frags ++ fragsOf ms
 
-abbrev pub chunksOf : List Msg → List Msg → List Piece-of
+abbrev pub chunksOf : List Msg → List Msg → List Carried
 chunksOf os us = map (chunk false) (fragsOf os) ++ map (chunk true) (fragsOf us)
 
 -- what comes out: SSN, identifier, bytes
@@ -112,16 +112,16 @@ inOrder n (m ∷ ms) = message n m ∷ inOrder (suc n) ms
 
 -- calls, one after the other: a push, or a take into a buffer long enough
 pub data Event : Type 0 where
-  Push : Piece-of → Event
+  Push : Carried → Event
   Take : Event
 
-abbrev pub pushes : List Event → List Piece-of
+abbrev pub pushes : List Event → List Carried
 pushes [] = []
 pushes (Push c ∷ es) = c ∷ pushes es
 pushes (Take ∷ es) = pushes es
 
 -- what a push and a take leave
-abbrev pub afterPush : Queue → Piece-of → Queue
+abbrev pub afterPush : Queue → Carried → Queue
 afterPush q c = push (roomFor q (c .frag)) q (q .si) (c .unordered) (c .frag) .queue
 
 abbrev pub afterTake : Queue → Queue
@@ -180,7 +180,7 @@ starts si max = queue si 0 max [] [] []
 abbrev pub Arrival : Type 0
 Arrival =
     (si base max : ℕ) (os us : List Msg) → Plan base max os us
-    → (es : List Event) → Order Piece-of (pushes es) (chunksOf os us)
+    → (es : List Event) → Order Carried (pushes es) (chunksOf os us)
     → Roomy (starts si max) es
     → readable (final (starts si max) es) ≡ false
     → Came os us (out (starts si max) es) (final (starts si max) es)
