@@ -16,12 +16,12 @@ use Rattle.fragments.specs.Words.{size, any, while, past, find, placed}
 use Rattle.fragments.specs.Sets.{setOf, rises, complete, joins, grownSet, stored}
 use Rattle.fragments.specs.Loose.{runs, run, reach, startsBy, scan}
 use Rattle.reassembly_queue.specs.Limits.{fragsMost, bytesMost}
-use Rattle.reassembly_queue.specs.Model.{Queue, held, gives, roomFor, keepOrdered, pushOrdered, moveRun, keepLoose, pushUnordered, push, readySet, movedOn, finishedTurn, orderedTurn, turn, readable, taken}
-use Rattle.reassembly_queue.specs.State.{State, stateOf, fresh, fragmentOf, unsound, shown, pushed, Read}
+use Rattle.reassembly_queue.specs.Model.{Queue, held, roomFor, keepOrdered, pushOrdered, moveRun, keepLoose, pushUnordered, push, readySet, movedOn, firstSsn, finishedTurn, orderedTurn, turn, readable, messageOf, taken}
+use Rattle.reassembly_queue.specs.State.{State, stateOf, fresh, fragmentOf, unsound, shown, pushed, Read, layTaken, read}
 use Rattle.reassembly_queue.proofs.Laws.{held-view}
 use Rattle.arrival.specs.Plan as model
 use Rattle.arrival.specs.Plan.{Order, none-left, one-of, Merge, neither, left, right}
-use Rattle.arrival.specs.Calls.{Chunk, Sent, Call, Push, Take, pushes, ran, Came, message, inOrder, out, Arrived}
+use Rattle.arrival.specs.Calls.{Chunk, Sent, Call, Push, Take, pushes, afterPush, ran, Came, given, message, inOrder, out, Arrived}
 use Rattle.arrival.proofs.Maps.{Each}
 use Rattle.arrival.proofs.Planned.{Of, fragOf, pieceOf}
 use Rattle.arrival.proofs.Bridge.{push-holds, push-told, read-is, told, events, Walked, walk, fresh-holds, Long-on, back}
@@ -66,8 +66,11 @@ numbered ssn tsn = chunk false true true tsn ssn Binary (65 ∷ [])
 abbrev sent : ℕ → List Chunk → Sent
 sent first cs = record { ppi = Binary; first = first; chunks = cs }
 
+abbrev buffer : List ℕ
+buffer = 0 ∷ 0 ∷ 0 ∷ []
+
 abbrev take : Call
-take = Take (0 ∷ 0 ∷ 0 ∷ [])
+take = Take buffer
 
 -- "TSNs are distinct": TSN 1 is in two messages; the second is taken for the first
 abbrev twice : List Call
@@ -135,10 +138,25 @@ unsound-pool : (ws pool : List ℕ) → length pool ≡ 32767 → pushed (stateO
 unfolding pushed unsound
 unsound-pool ws pool e = rw e
 
--- "Ordered messages, at most 32,767": the one numbered 32,769, come first, is taken for an old one, and not kept
-pub at-most : push true (model.starts 7 3) 7 false (fragOf (numbered 32769 1)) ≡ gives (says none false) (model.starts 7 3)
-unfolding push pushOrdered setOf while past size any ahead distance before fragmentOf dataFlags dataSent
-at-most = refl
+-- ── the first that comes ──
+
+-- its SSN
+abbrev leading : List Came → ℕ
+leading [] = 0
+leading (c ∷ cs) = c .told .ssn
+
+merge-leading : {l r m : List Came} → Merge Came l r m → length r ≡ 0 → leading m ≡ leading l
+merge-leading neither e = refl
+merge-leading (left g) e = refl
+merge-leading (right g) e = absurd (omega arith)
+
+-- number 32,768, half the circle from 0: neither is before the other, so it is kept, and is not after the expected one
+abbrev last : Chunk
+last = numbered 32768 32768
+
+last-leads : (s : State) (ms : List Came) → leading (given (layTaken s (taken shown (model.afterPush (model.starts 7 3) (pieceOf last)) buffer)) ms) ≡ 32768
+unfolding taken messageOf push pushOrdered keepOrdered stored grownSet joins setOf while past size any placed complete rises ahead distance before turn orderedTurn firstSsn readySet readable roomFor fragmentOf dataFlags dataSent
+last-leads s ms = refl
 
 -- ── of the calls, on any table and pool of the lengths ──
 
@@ -181,6 +199,17 @@ module _ (ws pool : List ℕ) (w : length ws ≡ 4 * fragsMost) (p : bytesMost �
       ∷ sent 2147483650 (loose true false 2147483650 ∷ loose false true 2147483651 ∷ []) ∷ [])
       (start 3) around → ⊥
   one-arc a = let k = none-stay (computed .5) a in absurd (omega arith)
+
+  -- "Ordered messages, at most 32,767": 32,769 of them, numbers 0 to 32,768, each one byte in one chunk, its TSN its number;
+  -- the chunk of number 32,768 comes first, and is taken before number 0, whatever calls follow
+  pub few-ordered : (m : Sent) (ms : List Sent) (calls : List Call) → Arrived (m ∷ ms) [] (start 3) (Push last ∷ take ∷ calls) → ⊥
+  few-ordered m ms calls a =
+      let h = push-holds (fresh-holds 7 3 ws pool w p) last refl in
+      let s : State = afterPush (start 3) last in
+      let later : List Came = out (read s buffer .state) calls in
+      let e = ap (λ (r : Read). leading (given r later)) (read-is h buffer) ∙ last-leads s later in
+      let z : _≡_ {A = ℕ} 32768 0 = sym e ∙ merge-leading (a .merged) (order-length (a .some-order)) in
+      absurd (omega arith)
 
   -- ── calls that are refused ──
 
