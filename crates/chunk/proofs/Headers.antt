@@ -9,7 +9,7 @@ use borrow.Author.Tests.{eq-eqb, ne-eqb, lt-ltb, le-ltb, ltb-false, eqb-true, no
 use lib.ListN.{length, take, drop, length-append, length-drop}
 use lib.Seq.{length-take-le, take-add, drop-at}
 use denote.Ref.{RefT}
-use Rattle.wire.specs.BigEndian.{bigEndian}
+use Rattle.wire.specs.BigEndian.{bigEndian, over}
 use Rattle.wire.specs.Refusal.{Check, none, refuse, first, says}
 use Rattle.wire.proofs.Reading.{Whole, whole-front, shorter, begins-with, refused, accepted, first-refused, first-passed, none-holds}
 use Rattle.chunk.specs.Layout.{Header, header, headerBytes, chunk}
@@ -22,6 +22,11 @@ use Rattle.chunk.specs.declared.chunk_header.Unmarshalled.the-variants a
 pub header-length : (h : Header) → length (headerBytes h) ≡ 4
 unfolding bigEndian headerBytes
 header-length h = refl
+
+-- a header that was put at the front of a buffer is that of its fields
+pub header-put : {out : List ℕ} (was : List ℕ) (kind flags size : ℕ) → out ≡ over was (bigEndian 1 kind ++ (bigEndian 1 flags ++ bigEndian 2 size)) → out ≡ over was (headerBytes (header kind flags size))
+unfolding headerBytes
+header-put was kind flags size e = e
 
 -- what begins with a header and fields begins with the header
 abbrev pub header-front : {A : Type 0} (value : A → List ℕ) (Fits : A → Type 0) {raw : List ℕ} → HeadedFront value Fits raw → HeaderFront raw

@@ -1,9 +1,6 @@
 // The chunk header of RFC 4960 section 3.2.
 ghost use mathlib.Core.Path.{_≡_};
-ghost use Prim.Native.Nat.{_≤_};
 ghost use lib.ListN.{length};
-ghost use Rattle.wire.specs.BigEndian.{over};
-ghost use Rattle.chunk.specs.Layout.{header, headerBytes};
 ghost use Rattle.chunk.specs.Header.{HeaderFront, headerTold, headerRead, headerChecks, kindChecks, Room};
 
 // Type, flags, and the length, which counts these 4 bytes and the value, not padding.
@@ -65,14 +62,4 @@ pub fn unmarshal_as(raw: &[u8], kind: u8, least: u16, short: u8) -> Unmarshalled
             Unmarshalled::Header(h)
         }
     }
-}
-
-// The header, put at the front of what is lent.
-pub fn marshal_to(out: &mut [u8], kind: u8, flags: u8, length: u16)
-    requires { ⌜ 4 ≤ lib.ListN.length (now out) ⌝ }
-    ensures { λ _. ⌜ now (out .exit) ≡ over (now (out .entry)) (headerBytes (header kind flags length)) ⌝ }
-{
-    wire::put_u8(out, kind);
-    wire::put_u8(&mut out[1..], flags);
-    wire::put_u16(&mut out[2..], length);
 }

@@ -154,7 +154,7 @@ pub fn marshal_to(out: &mut [u8], fields: ChunkPayloadData, user: &[u8]) -> Mars
         return Marshalled::Refused(10);
     }
     let flags = flags_of(fields);
-    chunk_header::marshal_to(out, 0, flags, size as u16);
+    wire::put_header(out, 0, flags, size as u16);
     put_fields(&mut out[4..], fields);
     wire::put_bytes(&mut out[16..], user);
     Marshalled::Bytes(size)

@@ -170,7 +170,7 @@ pub fn marshal_to(
     if out.len() < size {
         return Marshalled::Refused(10);
     }
-    chunk_header::marshal_to(out, 3, 0, size as u16);
+    wire::put_header(out, 3, 0, size as u16);
     put_fields(
         &mut out[4..],
         cumulative,

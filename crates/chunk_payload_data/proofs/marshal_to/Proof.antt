@@ -13,7 +13,7 @@ use Rattle.wire.proofs.Writing.{behind, write-short, write-done}
 use Rattle.chunk.specs.Layout.{headerBytes, header}
 use Rattle.chunk_payload_data.specs.Layout.{dataValue, dataChunk}
 use Rattle.chunk_payload_data.specs.Data.{dataFlags, dataSent, dataWritten}
-use Rattle.chunk.proofs.Headers.{header-length}
+use Rattle.chunk.proofs.Headers.{header-put, header-length}
 use Rattle.chunk_payload_data.proofs.DataBytes.{data-value-length, data-chunk-length, data-chunk-parts}
 use Rattle.chunk_payload_data.proofs.marshal_to.Statement.{statement}
 use Rattle.chunk_payload_data.proofs.marshal_to.Tie as tie
@@ -41,7 +41,7 @@ done c =
     let user = a .user .now in
     let sent = dataSent (a .fields) in
     let head = headerBytes (header 0 (dataFlags (a .fields)) (16 + length user)) in
-    let two = behind out head (dataValue sent) 4 (header-length _) (rw (f .flags-of .ensures) at (h .marshal-to .ensures)) (v .put-fields .ensures) in
+    let two = behind out head (dataValue sent) 4 (header-length _) (header-put out 0 (dataFlags (a .fields)) (16 + length user) (rw (f .flags-of .ensures) at (h .put-header .ensures))) (v .put-fields .ensures) in
     let three = behind out (head ++ dataValue sent) user 16 (simp (length-append, header-length, data-value-length)) two (u .put-bytes .ensures) in
     write-done (when (ltb 65519 (length user)) 9 ∷ []) (dataChunk (dataFlags (a .fields)) sent user) out
     (rw (le-ltb 65519 _ (f .before .before .if1 .left))) (data-chunk-length (dataFlags (a .fields)) sent user) (f .before .if2 .left)

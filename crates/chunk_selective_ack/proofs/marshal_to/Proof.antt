@@ -15,7 +15,7 @@ use Rattle.wire.proofs.Writing.{behind, write-short, write-done}
 use Rattle.chunk.specs.Layout.{header, headerBytes}
 use Rattle.chunk_selective_ack.specs.Layout.{sack, sackValue, gapBlocks, duplicateTsns, sackChunk}
 use Rattle.chunk_selective_ack.specs.Sack.{sackWritten}
-use Rattle.chunk.proofs.Headers.{header-length}
+use Rattle.chunk.proofs.Headers.{header-put, header-length}
 use Rattle.chunk_selective_ack.proofs.SackBytes.{blocks-length, sack-value-length, sack-chunk-length, sack-chunk-parts}
 use Rattle.chunk_selective_ack.proofs.marshal_to.Statement.{statement}
 use Rattle.chunk_selective_ack.proofs.marshal_to.Tie as tie
@@ -62,7 +62,7 @@ done c =
     let same = two .if2 .left in
     let head = headerBytes (header 3 0 (16 + 4 * length starts + 4 * length duplicates)) in
     let value = sackValue (sack (a .cumulative) (a .window) (length starts) (length duplicates)) in
-    let fields = behind out head value 4 (header-length _) (h .marshal-to .ensures) (v .put-fields .ensures) in
+    let fields = behind out head value 4 (header-length _) (header-put out 3 0 (16 + 4 * length starts + 4 * length duplicates) (h .put-header .ensures)) (v .put-fields .ensures) in
     let blocks = behind out (head ++ value) (gapBlocks starts ends) 16 (simp (length-append, header-length, sack-value-length)) fields (b .put-blocks .ensures) in
     let long : length ((head ++ value) ++ gapBlocks starts ends) ≡ 16 + 4 * length starts = simp (length-append, header-length, sack-value-length) (omega (arith, blocks-length starts ends same)) in
     let all = behind out ((head ++ value) ++ gapBlocks starts ends) (duplicateTsns duplicates) (16 + 4 * length starts) long blocks (t .put-tsns .ensures) in

@@ -1,16 +1,15 @@
--- `chunk::chunk_header::marshal_to` meets its contract: each field goes into what is left behind those before it.
+-- `wire::put_header` meets its contract: each field goes into what is left behind those before it.
 -- Assumes nothing.
 use mathlib.Core.Path.{refl}
 use mathlib.Core.List.{_++_}
 use borrow.Author.Needs.{needs}
 use Rattle.wire.specs.BigEndian.{bigEndian}
 use Rattle.wire.proofs.Writing.{behind}
-use Rattle.chunk.specs.Layout.{headerBytes}
-use Rattle.chunk.proofs.chunk_header.marshal_to.Statement.{statement}
-use Rattle.chunk.proofs.chunk_header.marshal_to.Tie as tie
+use Rattle.wire.proofs.put_header.Statement.{statement}
+use Rattle.wire.proofs.put_header.Tie as tie
 
 returns : tie.Need-returns
-unfolding bigEndian headerBytes
+unfolding bigEndian
 returns c =
     let l = c .before .before in
     let f = l .before .before .before .before in
@@ -21,8 +20,8 @@ returns c =
     behind (a .out .now) (kind ++ flags) (bigEndian 2 (a .length)) 2 refl
     (behind (a .out .now) kind flags 1 refl (k .put-u8 .ensures) (f .put-u82 .ensures)) (l .put-u16 .ensures)
 
-pub marshal-to-spec : {M : Type 1} → statement M
-marshal-to-spec =
+pub put-header-spec : {M : Type 1} → statement M
+put-header-spec =
     tie.close
     (tie.spec (λ c κs. search needs) (λ c. search needs) (λ c. search needs) (λ c. search needs) (λ c κs. search needs)
     (λ c. search needs) (λ c. search needs) (λ c. search needs) (λ c κs. search needs) (λ c. search needs) returns)
