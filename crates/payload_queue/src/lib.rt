@@ -11,10 +11,9 @@ ghost use Rattle.payload_queue.specs.GapCall.{lists, gapReport};
 ghost use Rattle.payload_queue.specs.Answers.{flagTold, numberTold, queuedFound, takenTold, lastTold, doneTold, handedTold};
 
 mod gap;
+mod record;
 
 use chunk_payload_data::ChunkPayloadData;
-use chunk_payload_data::PayloadProtocolIdentifier;
-use table::Row;
 
 // The sizes, stated once. `specs/Limits.antt` states them once for the proofs.
 pub const TSNS: usize = 256;
@@ -85,44 +84,6 @@ pub struct Duplicates {
     pub answer: Number,
     pub tsns: [u32; LOG],
     pub queue: PayloadQueue,
-}
-
-// The record of a chunk.
-fn row_of(chunk: ChunkPayloadData, size: u16) -> Row
-    ensures { λ r. ⌜ r ≡ rowOf chunk size ⌝ }
-{
-    let flags = chunk_payload_data::flags_of(chunk);
-    let payload_type = chunk.payload_type;
-    let ppi = payload_type.to_u32();
-    Row {
-        head: (flags as u32) * 16777216 + size as u32,
-        tsn: chunk.tsn,
-        id: (chunk.stream_identifier as u32) * 65536 + chunk.stream_sequence_number as u32,
-        ppi,
-    }
-}
-
-// The chunk of a record.
-fn chunk_of(row: Row) -> Queued
-    ensures { λ r. ⌜ queuedFound r ≡ chunkOf row ⌝ }
-{
-    let flags = row.head / 16777216;
-    let number = row.ppi;
-    let payload_type = PayloadProtocolIdentifier::from_u32(number);
-    let chunk = ChunkPayloadData {
-        unordered: flags / 4 % 2 == 1,
-        beginning_fragment: flags / 2 % 2 == 1,
-        ending_fragment: flags / 1 % 2 == 1,
-        immediate_sack: flags / 8 % 2 == 1,
-        tsn: row.tsn,
-        stream_identifier: (row.id / 65536) as u16,
-        stream_sequence_number: (row.id % 65536) as u16,
-        payload_type,
-    };
-    Queued {
-        chunk,
-        size: (row.head % 65536) as u16,
-    }
 }
 
 // The first n places of the log, and zeros.
@@ -233,7 +194,7 @@ impl PayloadQueue {
             };
         }
         let count = self.count;
-        let row = row_of(chunk, size);
+        let row = record::row_of(chunk, size);
         let tsn = row.tsn;
         if table::has_tsn(table, TSNS, 0, count, tsn) {
             return Pushed {
@@ -293,7 +254,7 @@ impl PayloadQueue {
         queue.count = count - 1;
         queue.n_bytes = queue.n_bytes - (row.head % 65536) as usize;
         Popped {
-            answer: Taken::Chunk(chunk_of(row)),
+            answer: Taken::Chunk(record::chunk_of(row)),
             queue,
         }
     }
@@ -331,7 +292,7 @@ impl PayloadQueue {
         if count <= at {
             return Taken::Nothing;
         }
-        Taken::Chunk(chunk_of(table::row_at(table, TSNS, at)))
+        Taken::Chunk(record::chunk_of(table::row_at(table, TSNS, at)))
     }
 
     // Hands out the log of duplicates, and empties it.

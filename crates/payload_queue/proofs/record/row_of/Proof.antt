@@ -1,10 +1,10 @@
--- `payload_queue::row_of` meets its contract: each word is put together as the row says.
+-- `payload_queue::record::row_of` meets its contract: each word is put together as the row says.
 -- Assumes nothing.
 use borrow.Author.Needs.{needs}
 use Rattle.chunk_payload_data.specs.Data.{dataSent}
 use Rattle.payload_queue.specs.Queue.{rowOf}
-use Rattle.payload_queue.proofs.row_of.Statement.{statement}
-use Rattle.payload_queue.proofs.row_of.Tie as tie
+use Rattle.payload_queue.proofs.record.row_of.Statement.{statement}
+use Rattle.payload_queue.proofs.record.row_of.Tie as tie
 
 returns : tie.Need-returns
 unfolding rowOf dataSent
