@@ -11,7 +11,7 @@ use lib.Seq.{append-snoc}
 use Rattle.fragments.specs.Frag.{Frag, hasSsn}
 use Rattle.fragments.specs.Words.{size, joined}
 use Rattle.fragments.specs.Sets.{complete}
-use Rattle.reassembly_queue.specs.Model.{Queue, queue, held, roomFor, readable}
+use Rattle.reassembly_state.specs.Model.{Queue, queue, held, roomFor, readable}
 use Rattle.arrival.specs.Plan.{Msg, Cut, Ordered, Carried, chunk, fragsOf, chunksOf, Message, message, inOrder, Event, Push, Take, pushes, afterTake, final, out, Roomy, Order, none-left, one-of, Merge, neither, left, right, Came, starts, Unrefused}
 use Rattle.arrival.proofs.Lists.{Is}
 use Rattle.arrival.proofs.Shape.{Mark, came, due, all-of, arrived, missing, Done, Open, done-or-open, done-all, done-missing, length-all, complete-done, complete-open}

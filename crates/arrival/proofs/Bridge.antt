@@ -21,11 +21,12 @@ use Rattle.fragments.specs.Loose.{reach}
 use Rattle.fragments.specs.declared.loose.Span.{Span}
 use Rattle.fragments.specs.Pool.{cut}
 use Rattle.fragments.proofs.Pool.{joined-length}
-use Rattle.reassembly_queue.specs.Limits.{fragsMost, bytesMost}
-use Rattle.reassembly_queue.specs.Model.{Queue, queue, held, Given, roomFor, keepOrdered, moveRun, keepLoose, pushOrdered, pushUnordered, push, Turn, finishedTurn, orderedTurn, firstPpi, turn, readable, noMessage, messageOf, Took, took, taken}
-use Rattle.reassembly_queue.specs.State.{State, stateOf, fresh, unsound, view, lay, After, laid, pushed, isReadable, Read, layTaken, shown, read}
-use Rattle.reassembly_queue.proofs.Laws.{sound}
-use Rattle.reassembly_queue.proofs.Laid.{view-lay, sound-lay}
+use Rattle.reassembly_state.specs.Limits.{fragsMost, bytesMost}
+use Rattle.reassembly_state.specs.Model.{Queue, queue, held, Given, roomFor, keepOrdered, moveRun, keepLoose, pushOrdered, pushUnordered, push, Turn, finishedTurn, orderedTurn, firstPpi, turn, readable, noMessage, messageOf, Took, took, taken}
+use Rattle.reassembly_state.specs.State.{State, unsound, view, lay, After, laid, pushed, isReadable, Read, layTaken, shown, read}
+use Rattle.reassembly_queue.specs.Queue.{stateOf, fresh}
+use Rattle.reassembly_state.proofs.Laws.{sound}
+use Rattle.reassembly_state.proofs.Laid.{view-lay, sound-lay}
 use Rattle.reassembly_theorems.proofs.Stays.{Good, taken-good, push-good, fresh-sound}
 use Rattle.arrival.specs.Plan as model
 use Rattle.arrival.specs.Calls.{Chunk, Call, Push, Take, pushes, afterPush, ran, Roomy, Long, Came, given, out, Unrefused}

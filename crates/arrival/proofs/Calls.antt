@@ -11,10 +11,11 @@ use Rattle.chunk_payload_data.specs.Data.{identifierNumber, identifierName}
 use Rattle.chunk_payload_data.specs.declared.PayloadProtocolIdentifier.{PayloadProtocolIdentifier}
 use Rattle.chunk_payload_data.specs.declared.PayloadProtocolIdentifier.the-variants.{Dcep, String, Binary, StringEmpty, BinaryEmpty, Unknown}
 use Rattle.fragments.specs.Words.{size}
-use Rattle.reassembly_queue.specs.Limits.{fragsMost, bytesMost}
-use Rattle.reassembly_queue.specs.Model.{Queue, held, readable}
-use Rattle.reassembly_queue.specs.State.{State, stateOf, fresh, fragments, isReadable, shown}
-use Rattle.reassembly_queue.proofs.Laws.{held-view}
+use Rattle.reassembly_state.specs.Limits.{fragsMost, bytesMost}
+use Rattle.reassembly_state.specs.Model.{Queue, held, readable}
+use Rattle.reassembly_state.specs.State.{State, fragments, isReadable, shown}
+use Rattle.reassembly_queue.specs.Queue.{stateOf, fresh}
+use Rattle.reassembly_state.proofs.Laws.{held-view}
 use Rattle.reassembly_theorems.proofs.Stays.{bytes-told}
 use Rattle.reassembly_theorems.proofs.Readable.{unreadable-nothing}
 use Rattle.arrival.specs.Plan as model

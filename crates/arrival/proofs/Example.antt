@@ -15,9 +15,10 @@ use Rattle.table.specs.Lists.{slice, gone}
 use Rattle.fragments.specs.Words.{size, joined, any, while, past, find, placed}
 use Rattle.fragments.specs.Sets.{setOf, rises, complete, joins, grownSet, stored}
 use Rattle.fragments.specs.Loose.{runs, run, reach, startsBy, scan}
-use Rattle.reassembly_queue.specs.Limits.{fragsMost, bytesMost}
-use Rattle.reassembly_queue.specs.Model.{Queue, queue, roomFor, keepOrdered, pushOrdered, moveRun, keepLoose, pushUnordered, push, readySet, movedOn, firstSsn, firstPpi, finishedTurn, orderedTurn, turn, readable}
-use Rattle.reassembly_queue.specs.State.{State, stateOf, fresh, fragmentOf, isReadable}
+use Rattle.reassembly_state.specs.Limits.{fragsMost, bytesMost}
+use Rattle.reassembly_state.specs.Model.{Queue, queue, roomFor, keepOrdered, pushOrdered, moveRun, keepLoose, pushUnordered, push, readySet, movedOn, firstSsn, firstPpi, finishedTurn, orderedTurn, turn, readable}
+use Rattle.reassembly_state.specs.State.{State, fragmentOf, isReadable}
+use Rattle.reassembly_queue.specs.Queue.{stateOf, fresh}
 use Rattle.arrival.specs.Plan as model
 use Rattle.arrival.specs.Plan.{tsnAt, Order, none-left, one-of}
 use Rattle.arrival.specs.Calls.{Chunk, Sent, Loose, Number, Part, chunksOf, Plan, Call, Push, Take, pushes, ran, message, out, Run, Arrived, Arrival}

@@ -10,7 +10,7 @@ use borrow.Author.Tests.{le-ltb}
 use Rattle.fragments.specs.Frag.{Frag, hasTsn, tsnBefore}
 use Rattle.fragments.specs.Words.{any, placed}
 use Rattle.fragments.specs.Loose.{reach}
-use Rattle.reassembly_queue.specs.Model.{queue, roomFor}
+use Rattle.reassembly_state.specs.Model.{queue, roomFor}
 use Rattle.arrival.specs.Plan.{Msg, Cut, Whole, chunk}
 use Rattle.arrival.proofs.Lists.{Is, is-append, any-none, placed-at}
 use Rattle.arrival.proofs.Shape.{Mark, came, due, all-of, arrived, missing, Done, Open, all-append, arrived-append, length-all, Within, within-append, wider, below, above, places-within, places-cut, around, split}

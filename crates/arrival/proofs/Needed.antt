@@ -15,10 +15,11 @@ use Rattle.fragments.specs.Frag.{Frag}
 use Rattle.fragments.specs.Words.{size, any, while, past, find, placed}
 use Rattle.fragments.specs.Sets.{setOf, rises, complete, joins, grownSet, stored}
 use Rattle.fragments.specs.Loose.{runs, run, reach, startsBy, scan}
-use Rattle.reassembly_queue.specs.Limits.{fragsMost, bytesMost}
-use Rattle.reassembly_queue.specs.Model.{Queue, held, roomFor, keepOrdered, pushOrdered, moveRun, keepLoose, pushUnordered, push, readySet, movedOn, firstSsn, finishedTurn, orderedTurn, turn, readable, messageOf, taken}
-use Rattle.reassembly_queue.specs.State.{State, stateOf, fresh, fragmentOf, unsound, shown, pushed, Read, layTaken, read}
-use Rattle.reassembly_queue.proofs.Laws.{held-view}
+use Rattle.reassembly_state.specs.Limits.{fragsMost, bytesMost}
+use Rattle.reassembly_state.specs.Model.{Queue, held, roomFor, keepOrdered, pushOrdered, moveRun, keepLoose, pushUnordered, push, readySet, movedOn, firstSsn, finishedTurn, orderedTurn, turn, readable, messageOf, taken}
+use Rattle.reassembly_state.specs.State.{State, fragmentOf, unsound, shown, pushed, Read, layTaken, read}
+use Rattle.reassembly_queue.specs.Queue.{stateOf, fresh}
+use Rattle.reassembly_state.proofs.Laws.{held-view}
 use Rattle.arrival.specs.Plan as model
 use Rattle.arrival.specs.Plan.{Order, none-left, one-of, Merge, neither, left, right}
 use Rattle.arrival.specs.Calls.{Chunk, Sent, Call, Push, Take, pushes, afterPush, ran, Came, given, message, inOrder, out, Arrived}

@@ -14,8 +14,8 @@ use Rattle.chunk_payload_data.specs.declared.PayloadProtocolIdentifier.{Payload
 use Rattle.fragments.specs.Frag.{Frag}
 use Rattle.fragments.specs.Words.{joined}
 use Rattle.fragments.proofs.Pool.{joined-length}
-use Rattle.reassembly_queue.specs.State.{fragmentOf}
-use Rattle.reassembly_queue.proofs.Chunk.{chunk-ends, chunk-begins, chunk-ssn}
+use Rattle.reassembly_state.specs.State.{fragmentOf}
+use Rattle.reassembly_state.proofs.Chunk.{chunk-ends, chunk-begins, chunk-ssn}
 use Rattle.arrival.specs.Plan as model
 use Rattle.arrival.specs.Calls.{Chunk, Sent, Kind, Loose, Number, Bears, null, bytesOf, Part, Later, Cut, Whole, Ordered, Unordered, chunksOf, Absent, Distinct, Plan}
 use Rattle.arrival.proofs.Maps.{map-append, Each, each-append}

@@ -10,7 +10,7 @@ use lib.Dec.{leb}
 use lib.ListN.{length}
 use borrow.Author.Tests.{leb-true, leb-false}
 use Rattle.fragments.specs.Frag.{Frag}
-use Rattle.reassembly_queue.specs.Model.{readable}
+use Rattle.reassembly_state.specs.Model.{readable}
 use Rattle.arrival.specs.Plan.{Msg, Cut, Whole, Apart, Unordered, Plan, Carried, chunk, fragsOf, chunksOf, Message, message, Event, pushes, final, out, Roomy, Order, none-left, one-of, Came, starts, Unrefused}
 use Rattle.arrival.proofs.Loose.{Listed}
 use Rattle.arrival.proofs.Arrived.{append-nil-both, arrival-listed}

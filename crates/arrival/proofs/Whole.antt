@@ -4,7 +4,7 @@ use mathlib.Core.Path.{_≡_, refl, ap, _∙_}
 use mathlib.Core.List.{List, [], _∷_, _++_}
 use Prim.Native.Nat.{ℕ, zero, suc, _≤_}
 use lib.ListN.{length}
-use Rattle.reassembly_queue.specs.Model.{Queue, held, readable}
+use Rattle.reassembly_state.specs.Model.{Queue, held, readable}
 use Rattle.arrival.specs.Plan.{Msg, Plan, Carried, chunksOf, Event, Push, Take, pushes, afterPush, afterTake, final, out, Roomy, Order, Came, starts, Arrival, takes, Drained, Unrefused}
 use Rattle.arrival.proofs.Sorts.{arrives-all}
 use Rattle.arrival.proofs.Drains.{drains}

@@ -11,9 +11,10 @@ use Rattle.chunk_payload_data.specs.Data.{identifierNumber}
 use Rattle.chunk_payload_data.specs.declared.ChunkPayloadData.{ChunkPayloadData}
 use Rattle.chunk_payload_data.specs.declared.PayloadProtocolIdentifier.{PayloadProtocolIdentifier}
 use Rattle.fragments.specs.Words.{size}
-use Rattle.reassembly_queue.specs.Limits.{fragsMost, bytesMost}
-use Rattle.reassembly_queue.specs.Model.{Message, noMessage, turn, roomFor}
-use Rattle.reassembly_queue.specs.State.{State, stateOf, fresh, view, fragments, fragmentOf, pushed, isReadable, Read, reads, read, numBytes}
+use Rattle.reassembly_state.specs.Limits.{fragsMost, bytesMost}
+use Rattle.reassembly_state.specs.Model.{Message, noMessage, turn, roomFor}
+use Rattle.reassembly_state.specs.State.{State, view, fragments, fragmentOf, pushed, isReadable, Read, reads, read, numBytes}
+use Rattle.reassembly_queue.specs.Queue.{stateOf, fresh}
 use Rattle.arrival.specs.Plan.{tsnAt, Order, Merge}
 
 -- ── "one stream's messages" ──

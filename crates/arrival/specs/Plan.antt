@@ -9,7 +9,7 @@ use lib.ListN.{length}
 use Rattle.wire.specs.Refusal.{none}
 use Rattle.fragments.specs.Frag.{Frag, begins, ends, ssnOf}
 use Rattle.fragments.specs.Words.{size, joined}
-use Rattle.reassembly_queue.specs.Model.{Queue, queue, held, roomFor, push, Turn, turn, readable, firstPpi}
+use Rattle.reassembly_state.specs.Model.{Queue, queue, held, roomFor, push, Turn, turn, readable, firstPpi}
 
 -- ── messages and their cuts ──
 

@@ -2,4 +2,3 @@ pub mod Fronts
 pub mod OneAnswer
 pub mod DataTrips
 pub mod SackTrips
-pub mod Sheet

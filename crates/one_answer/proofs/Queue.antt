@@ -6,14 +6,15 @@ use mathlib.Core.List.{List}
 use Prim.Native.Nat.{ℕ}
 use Rattle.wire.specs.Refusal.{Told}
 use Rattle.chunk_payload_data.specs.declared.ChunkPayloadData.{ChunkPayloadData}
-use Rattle.payload_queue.specs.Queue.{queueOf, After, after, rowOf, pushed, canPush, popped, poppedUpTo, Handed, poppedDuplicates, got, containsStream, counted, isEmpty, numBytes, lastTsn, fresh}
-use Rattle.payload_queue.specs.GapCall.{Lists, lists, gapReport}
-use Rattle.payload_queue.specs.Answers.{flagTold, numberTold, takenTold, lastTold, doneTold, handedTold}
+use Rattle.payload_model.specs.Queue.{After, after, rowOf, pushed, canPush, popped, poppedUpTo, Handed, poppedDuplicates, got, containsStream, counted, isEmpty, numBytes, lastTsn}
+use Rattle.payload_queue.specs.Queue.{queueOf, fresh}
+use Rattle.payload_model.specs.GapCall.{Lists, lists, gapReport}
+use Rattle.payload_model.specs.Answers.{flagTold, numberTold, takenTold, lastTold, doneTold, handedTold}
 use Rattle.payload_queue.specs.declared.PayloadQueue.{PayloadQueue}
-use Rattle.payload_queue.specs.declared.Flag.{Flag}
-use Rattle.payload_queue.specs.declared.Number.{Number}
-use Rattle.payload_queue.specs.declared.Taken.{Taken}
-use Rattle.payload_queue.specs.declared.LastTsn.{LastTsn}
+use Rattle.payload_model.specs.declared.Flag.{Flag}
+use Rattle.payload_model.specs.declared.Number.{Number}
+use Rattle.payload_model.specs.declared.Taken.{Taken}
+use Rattle.payload_model.specs.declared.LastTsn.{LastTsn}
 use Rattle.payload_queue.specs.declared.Pushed.{Pushed}
 use Rattle.payload_queue.specs.declared.Popped.{Popped}
 use Rattle.payload_queue.specs.declared.Dropped.{Dropped}

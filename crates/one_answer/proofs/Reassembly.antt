@@ -9,9 +9,10 @@ use Rattle.chunk_payload_data.specs.declared.ChunkPayloadData.{ChunkPayloadData
 use Rattle.chunks.specs.Message.{flagTold, numberTold}
 use Rattle.chunks.specs.declared.Flag.{Flag}
 use Rattle.chunks.specs.declared.Number.{Number}
-use Rattle.reassembly_queue.specs.Model.{Message}
-use Rattle.reassembly_queue.specs.State.{stateOf, After, after, pushed, isReadable, Read, reads, read, forwardOrdered, forwardUnordered, numBytes, fresh}
-use Rattle.reassembly_queue.specs.Answers.{tookTold, doneTold}
+use Rattle.reassembly_state.specs.Model.{Message}
+use Rattle.reassembly_state.specs.State.{After, after, pushed, isReadable, Read, reads, read, forwardOrdered, forwardUnordered, numBytes}
+use Rattle.reassembly_queue.specs.Queue.{stateOf, fresh}
+use Rattle.reassembly_state.specs.Answers.{tookTold, doneTold}
 use Rattle.reassembly_queue.specs.declared.ReassemblyQueue.{ReassemblyQueue}
 use Rattle.reassembly_queue.specs.declared.Pushed.{Pushed}
 use Rattle.reassembly_queue.specs.declared.Taken.{Taken}

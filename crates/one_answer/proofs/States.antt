@@ -5,11 +5,13 @@ use mathlib.Core.List.{List}
 use Prim.Native.Nat.{ℕ, _*_}
 use lib.ListN.{length}
 use Rattle.table.proofs.Columns.{injective}
-use Rattle.payload_queue.specs.Limits.{tsnsMost}
-use Rattle.payload_queue.specs.Queue as tsns
+use Rattle.payload_model.specs.Limits.{tsnsMost}
+use Rattle.payload_model.specs.Queue.{Queue}
+use Rattle.payload_queue.specs.Queue.{queueOf}
 use Rattle.payload_queue.specs.declared.PayloadQueue.{PayloadQueue}
-use Rattle.reassembly_queue.specs.Limits.{fragsMost}
-use Rattle.reassembly_queue.specs.State as rq
+use Rattle.reassembly_state.specs.Limits.{fragsMost}
+use Rattle.reassembly_state.specs.State.{State}
+use Rattle.reassembly_queue.specs.Queue.{structOf, stateOf}
 use Rattle.reassembly_queue.specs.declared.ReassemblyQueue.{ReassemblyQueue}
 
 -- ── the TSN queue ──
@@ -18,24 +20,24 @@ use Rattle.reassembly_queue.specs.declared.ReassemblyQueue.{ReassemblyQueue}
 abbrev pub TsnWords : List ℕ → Type 0
 TsnWords ws = length ws ≡ 4 * tsnsMost
 
-module _ (q p : PayloadQueue) (ws vs : List ℕ) (e : tsns.queueOf q ws ≡ tsns.queueOf p vs) where
+module _ (q p : PayloadQueue) (ws vs : List ℕ) (e : queueOf q ws ≡ queueOf p vs) where
   pub tsn-struct-one : q ≡ p
-  tsn-struct-one = ap (λ (s : tsns.Queue). record { count = s .count; «n_bytes» = s .bytes; dups = s .dups; «dup_tsn» = s .log }) e
+  tsn-struct-one = ap (λ (s : Queue). record { count = s .count; «n_bytes» = s .bytes; dups = s .dups; «dup_tsn» = s .log }) e
 
   pub tsn-words-one : TsnWords ws → TsnWords vs → ws ≡ vs
-  tsn-words-one h k = injective tsnsMost ws vs h k (ap (λ (s : tsns.Queue). s .rows) e)
+  tsn-words-one h k = injective tsnsMost ws vs h k (ap (λ (s : Queue). s .rows) e)
 
 -- ── the reassembly queue ──
 
 abbrev pub FragmentWords : List ℕ → Type 0
 FragmentWords ws = length ws ≡ 4 * fragsMost
 
-module _ (q p : ReassemblyQueue) (ws vs pool pool′ : List ℕ) (e : rq.stateOf q ws pool ≡ rq.stateOf p vs pool′) where
+module _ (q p : ReassemblyQueue) (ws vs pool pool′ : List ℕ) (e : stateOf q ws pool ≡ stateOf p vs pool′) where
   pub rq-struct-one : q ≡ p
-  rq-struct-one = ap (λ (s : rq.State). s .queue) e
+  rq-struct-one = ap (λ (s : State). structOf (s .queue)) e
 
   pub rq-words-one : FragmentWords ws → FragmentWords vs → ws ≡ vs
-  rq-words-one h k = injective fragsMost ws vs h k (ap (λ (s : rq.State). s .rows) e)
+  rq-words-one h k = injective fragsMost ws vs h k (ap (λ (s : State). s .rows) e)
 
   pub rq-pool-one : pool ≡ pool′
-  rq-pool-one = ap (λ (s : rq.State). s .pool) e
+  rq-pool-one = ap (λ (s : State). s .pool) e

@@ -8,18 +8,18 @@ use Rattle.wire.specs.Refusal.{Refusal, none, refuse, Told}
 use Rattle.chunk_payload_data.specs.Data.{DataValues, dataHeld, identifierName}
 use Rattle.chunk_payload_data.specs.declared.ChunkPayloadData.{ChunkPayloadData}
 use Rattle.chunk_theorems.proofs.OneAnswer.{name-of-number}
-use Rattle.payload_queue.specs.Queue.{Found, Last, Handed}
-use Rattle.payload_queue.specs.Answers.{flagTold, numberTold, queuedFound, takenTold, lastTold, doneTold, handedTold}
-use Rattle.payload_queue.specs.declared.Flag.{Flag}
-use Rattle.payload_queue.specs.declared.Flag.the-variants as flags
-use Rattle.payload_queue.specs.declared.Number.{Number}
-use Rattle.payload_queue.specs.declared.Number.the-variants as numbers
-use Rattle.payload_queue.specs.declared.Taken.{Taken}
-use Rattle.payload_queue.specs.declared.Taken.the-variants as chunks
-use Rattle.payload_queue.specs.declared.LastTsn.{LastTsn}
-use Rattle.payload_queue.specs.declared.LastTsn.the-variants as lasts
-use Rattle.payload_queue.specs.declared.Done.{Done}
-use Rattle.payload_queue.specs.declared.Done.the-variants as dones
+use Rattle.payload_model.specs.Queue.{Found, Last, Handed}
+use Rattle.payload_model.specs.Answers.{flagTold, numberTold, queuedFound, takenTold, lastTold, doneTold, handedTold}
+use Rattle.payload_model.specs.declared.Flag.{Flag}
+use Rattle.payload_model.specs.declared.Flag.the-variants as flags
+use Rattle.payload_model.specs.declared.Number.{Number}
+use Rattle.payload_model.specs.declared.Number.the-variants as numbers
+use Rattle.payload_model.specs.declared.Taken.{Taken}
+use Rattle.payload_model.specs.declared.Taken.the-variants as chunks
+use Rattle.payload_model.specs.declared.LastTsn.{LastTsn}
+use Rattle.payload_model.specs.declared.LastTsn.the-variants as lasts
+use Rattle.payload_model.specs.declared.Done.{Done}
+use Rattle.payload_model.specs.declared.Done.the-variants as dones
 use Rattle.chunks.specs.Message as hand
 use Rattle.chunks.specs.declared.Chunks.{Chunks}
 use Rattle.chunks.specs.declared.Flag as hand-flag
@@ -28,12 +28,12 @@ use Rattle.chunks.specs.declared.Number as hand-number
 use Rattle.chunks.specs.declared.Number.the-variants as hand-numbers
 use Rattle.chunks.specs.declared.Piece.{Piece}
 use Rattle.chunks.specs.declared.Piece.the-variants as pieces
-use Rattle.reassembly_queue.specs.Model.{Message}
-use Rattle.reassembly_queue.specs.Answers as rq
-use Rattle.reassembly_queue.specs.declared.Took.{Took}
-use Rattle.reassembly_queue.specs.declared.Took.the-variants as messages
-use Rattle.reassembly_queue.specs.declared.Done as rq-done
-use Rattle.reassembly_queue.specs.declared.Done.the-variants as rq-dones
+use Rattle.reassembly_state.specs.Model.{Message}
+use Rattle.reassembly_state.specs.Answers as rq
+use Rattle.reassembly_state.specs.declared.Took.{Took}
+use Rattle.reassembly_state.specs.declared.Took.the-variants as messages
+use Rattle.reassembly_state.specs.declared.Done as rq-done
+use Rattle.reassembly_state.specs.declared.Done.the-variants as rq-dones
 use Rattle.one_answer.proofs.Only.{Only, only}
 
 -- ── an answer from what it tells: from its values, or from the number of its refusal ──

@@ -1,11 +1,1 @@
-pub mod Parts
-pub mod Laws
-pub mod Chunk
-pub mod Laid
-pub mod Loose
-pub mod Sets
 pub mod Pushes
-pub mod Passed
-pub mod Skip
-pub mod Expected
-pub mod Turn

@@ -9,10 +9,10 @@ use lib.Dec.{eqb}
 use lib.ListN.{length}
 use Rattle.wire.specs.Refusal.{none, says}
 use Rattle.chunk_payload_data.specs.declared.ChunkPayloadData.{ChunkPayloadData}
-use Rattle.reassembly_queue.specs.Limits.{fragsMost}
-use Rattle.reassembly_queue.specs.Model.{roomFor, pushOrdered, pushUnordered, push}
-use Rattle.reassembly_queue.specs.State.{State, unsound, view, after, laid, fragmentOf, pushed}
-use Rattle.reassembly_queue.proofs.Laws.{sound, lay-own, view-si}
+use Rattle.reassembly_state.specs.Limits.{fragsMost}
+use Rattle.reassembly_state.specs.Model.{roomFor, pushOrdered, pushUnordered, push}
+use Rattle.reassembly_state.specs.State.{State, unsound, view, after, laid, fragmentOf, pushed}
+use Rattle.reassembly_state.proofs.Laws.{sound, lay-own, view-si}
 
 module _ (s : State) (e : unsound s ≡ false) (p : ChunkPayloadData) (bytes : List ℕ) where
   pub push-other : length (s .rows) ≡ fragsMost → (p .«stream_identifier» ≡ s .queue .si → ⊥) → after (says none false) s ≡ pushed s p bytes

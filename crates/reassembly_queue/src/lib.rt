@@ -1,32 +1,22 @@
-// Fragments to messages, for one stream. What is taken is a message in hand (crate chunks).
+// Fragments to messages, for one stream. What is taken is a message in hand (crate chunks). The crates below have the calls' code: it takes
+// and gives the counts of crate `reassembly_state`, which are this crate's struct field by field.
 ghost use mathlib.Core.Path.{_≡_};
-ghost use mathlib.Core.Bool.{false, not, _&&_};
-ghost use Prim.Native.Nat.{_*_};
-ghost use lib.ListN.{length};
-ghost use Rattle.reassembly_queue.specs.Limits.{fragsMost};
 ghost use Rattle.chunks.specs.Message.{flagTold, numberTold};
-ghost use Rattle.reassembly_queue.specs.State.{stateOf, unsound, after, pushed, isReadable, reads, read, forwardOrdered, forwardUnordered, numBytes, fresh};
-ghost use Rattle.reassembly_queue.specs.Answers.{tookTold, doneTold};
+ghost use Rattle.reassembly_state.specs.State.{after, pushed, isReadable, reads, read, forwardOrdered, forwardUnordered, numBytes};
+ghost use Rattle.reassembly_state.specs.Answers.{tookTold, doneTold};
+ghost use Rattle.reassembly_queue.specs.Queue.{countsOf, structOf, stateOf, fresh};
 
-mod forward;
-mod ordered;
-mod record;
-mod room;
-mod take;
-mod unordered;
+mod push;
 
 use chunk_payload_data::ChunkPayloadData;
-use chunks::Chunks;
 use chunks::Flag;
 use chunks::Number;
-
-// The sizes, stated once. `specs/Limits.antt` states them once for the proofs.
-pub const FRAGMENTS: usize = 128;
-
-pub const BYTES: usize = 32768;
-
-// The words of the table that the host lends to every call and hands on unaltered.
-pub const WORDS: usize = 4 * FRAGMENTS;
+pub use reassembly_state::BYTES;
+use reassembly_state::Counts;
+pub use reassembly_state::Done;
+pub use reassembly_state::FRAGMENTS;
+pub use reassembly_state::Took;
+pub use reassembly_state::WORDS;
 
 // The counts; the records stand in the lent table and their bytes in the lent pool: finished unordered messages, oldest first, then loose
 // unordered fragments, then ordered sets.
@@ -38,17 +28,6 @@ pub struct ReassemblyQueue {
     pub unordered: usize,
     pub ordered: usize,
     pub n_bytes: usize,
-}
-
-pub enum Took {
-    Message(Chunks),
-    Nothing,
-    Refused(u8),
-}
-
-pub enum Done {
-    All,
-    Refused(u8),
 }
 
 pub struct Pushed {
@@ -64,6 +43,21 @@ pub struct Taken {
 pub struct Forwarded {
     pub answer: Done,
     pub queue: ReassemblyQueue,
+}
+
+// The queue of some counts.
+fn queue_of(counts: Counts) -> ReassemblyQueue
+    ensures { λ r. ⌜ r ≡ structOf counts ⌝ }
+{
+    ReassemblyQueue {
+        si: counts.si,
+        next_ssn: counts.next_ssn,
+        max_message_size: counts.max_message_size,
+        finished: counts.finished,
+        unordered: counts.unordered,
+        ordered: counts.ordered,
+        n_bytes: counts.n_bytes,
+    }
 }
 
 impl ReassemblyQueue {
@@ -82,32 +76,19 @@ impl ReassemblyQueue {
         }
     }
 
-    // Refusal 0: a count above its table, a pool shorter than its limit, a place outside the pool, or a byte count that is not the sum of the
-    // held lengths. No two places can share a byte.
-    fn unsound(self, table: &[u32], pool: &[u8]) -> bool
-        requires { ⌜ length (now table) ≡ 4 * fragsMost ⌝ }
-        ensures { λ r. ⌜ r ≡ unsound (stateOf self (now (table .entry)) (now (pool .entry))) ⌝ }
+    // The same counts, as the crates below take them.
+    fn counts(self) -> Counts
+        ensures { λ r. ⌜ r ≡ countsOf self ⌝ }
     {
-        if FRAGMENTS < self.finished {
-            return true;
+        Counts {
+            si: self.si,
+            next_ssn: self.next_ssn,
+            max_message_size: self.max_message_size,
+            finished: self.finished,
+            unordered: self.unordered,
+            ordered: self.ordered,
+            n_bytes: self.n_bytes,
         }
-        let left = FRAGMENTS - self.finished;
-        if left < self.unordered {
-            return true;
-        }
-        if left - self.unordered < self.ordered {
-            return true;
-        }
-        let room = pool.len();
-        if room < BYTES {
-            return true;
-        }
-        let count = self.finished + (self.unordered + self.ordered);
-        let sum = fragments::sum_long(table, FRAGMENTS, 0, count);
-        if room < sum {
-            return true;
-        }
-        sum != self.n_bytes
     }
 
     // Stores the chunk with its user data: true where that completes a message. False where it is of another stream, old, or there already;
@@ -121,33 +102,19 @@ impl ReassemblyQueue {
     ) -> Pushed
         ensures { λ r. ⌜ after (flagTold (r .answer)) (stateOf (r .queue) (now (table .exit)) (now (pool .exit))) ≡ pushed (stateOf self (now (table .entry)) (now (pool .entry))) chunk (now («user_data» .entry)) ⌝ }
     {
-        if self.unsound(table, pool) {
-            return Pushed {
-                answer: Flag::Refused(0),
-                queue: self,
-            };
+        let left = push::push(self.counts(), table, pool, chunk, user_data);
+        let answer = left.answer;
+        Pushed {
+            answer,
+            queue: queue_of(left.queue),
         }
-        if chunk.stream_identifier != self.si {
-            return Pushed {
-                answer: Flag::Is(false),
-                queue: self,
-            };
-        }
-        if chunk.unordered {
-            return unordered::push(self, table, pool, chunk, user_data);
-        }
-        ordered::push(self, table, pool, chunk, user_data)
     }
 
     // Whether a message can be taken.
     pub fn is_readable(self, table: &[u32; WORDS], pool: &[u8]) -> Flag
         ensures { λ r. ⌜ flagTold r ≡ isReadable (stateOf self (now (table .entry)) (now (pool .entry))) ⌝ }
     {
-        if self.unsound(table, pool) {
-            return Flag::Refused(0);
-        }
-        let turn = take::in_turn(self, table);
-        Flag::Is(turn.from < turn.to)
+        reassembly_take::is_readable(self.counts(), table, pool)
     }
 
     // Takes the oldest finished unordered message, else the first ordered set if it is complete and not after the expected one, to the front
@@ -155,13 +122,12 @@ impl ReassemblyQueue {
     pub fn read(self, table: &mut [u32; WORDS], pool: &mut [u8], buffer: &mut [u8]) -> Taken
         ensures { λ r. ⌜ reads (tookTold (r .answer)) (stateOf (r .queue) (now (table .exit)) (now (pool .exit))) (now (buffer .exit)) ≡ read (stateOf self (now (table .entry)) (now (pool .entry))) (now (buffer .entry)) ⌝ }
     {
-        if self.unsound(table, pool) {
-            return Taken {
-                answer: Took::Refused(0),
-                queue: self,
-            };
+        let left = reassembly_take::read(self.counts(), table, pool, buffer);
+        let answer = left.answer;
+        Taken {
+            answer,
+            queue: queue_of(left.queue),
         }
-        take::take(self, table, pool, buffer)
     }
 
     // Drops incomplete sets at or before an SSN, and expects the one after it.
@@ -173,23 +139,16 @@ impl ReassemblyQueue {
     ) -> Forwarded
         ensures { λ r. ⌜ after (doneTold (r .answer)) (stateOf (r .queue) (now (table .exit)) (now (pool .exit))) ≡ forwardOrdered (stateOf self (now (table .entry)) (now (pool .entry))) «last_ssn» ⌝ }
     {
-        if self.unsound(table, pool) {
-            return Forwarded {
-                answer: Done::Refused(0),
-                queue: self,
-            };
-        }
-        let mut queue = forward::drop_incomplete(self, table, pool, last_ssn);
-        if serial::sna16lte(queue.next_ssn, last_ssn) {
-            queue.next_ssn = serial::ssn_next(last_ssn);
-            return Forwarded {
-                answer: Done::All,
-                queue,
-            };
-        }
+        let left = reassembly_forward::forward_tsn_for_ordered(
+            self.counts(),
+            table,
+            pool,
+            last_ssn,
+        );
+        let answer = left.answer;
         Forwarded {
-            answer: Done::All,
-            queue,
+            answer,
+            queue: queue_of(left.queue),
         }
     }
 
@@ -202,28 +161,16 @@ impl ReassemblyQueue {
     ) -> Forwarded
         ensures { λ r. ⌜ after (doneTold (r .answer)) (stateOf (r .queue) (now (table .exit)) (now (pool .exit))) ≡ forwardUnordered (stateOf self (now (table .entry)) (now (pool .entry))) «new_cumulative_tsn» ⌝ }
     {
-        if self.unsound(table, pool) {
-            return Forwarded {
-                answer: Done::Refused(0),
-                queue: self,
-            };
-        }
-        let count = self.finished + (self.unordered + self.ordered);
-        let at = self.finished;
-        let k = fragments::loose::find_after(
+        let left = reassembly_forward::forward_tsn_for_unordered(
+            self.counts(),
             table,
-            FRAGMENTS,
-            at,
-            self.unordered,
+            pool,
             new_cumulative_tsn,
         );
-        let bytes = fragments::remove_fragments(table, FRAGMENTS, count, pool, self.n_bytes, at, k);
-        let mut queue = self;
-        queue.unordered = queue.unordered - k;
-        queue.n_bytes = queue.n_bytes - bytes;
+        let answer = left.answer;
         Forwarded {
-            answer: Done::All,
-            queue,
+            answer,
+            queue: queue_of(left.queue),
         }
     }
 
@@ -231,9 +178,6 @@ impl ReassemblyQueue {
     pub fn get_num_bytes(self, table: &[u32; WORDS], pool: &[u8]) -> Number
         ensures { λ r. ⌜ numberTold r ≡ numBytes (stateOf self (now (table .entry)) (now (pool .entry))) ⌝ }
     {
-        if self.unsound(table, pool) {
-            return Number::Refused(0);
-        }
-        Number::Is(self.n_bytes)
+        self.counts().get_num_bytes(table, pool)
     }
 }

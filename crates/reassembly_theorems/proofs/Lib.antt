@@ -2,4 +2,3 @@ pub mod Views
 pub mod Within
 pub mod Stays
 pub mod Readable
-pub mod Sheet

@@ -8,9 +8,9 @@ use borrow.Author.Tests.{lt-ltb, le-ltb}
 use lib.ListN.{length}
 use Rattle.wire.specs.Refusal.{none, refuse, Told, says}
 use Rattle.fragments.specs.Words.{size}
-use Rattle.reassembly_queue.specs.Limits.{fragsMost}
-use Rattle.reassembly_queue.specs.Model.{turn, readable, noMessage, messageOf, taken}
-use Rattle.reassembly_queue.specs.State.{State, unsound, view, isReadable, reads, shown, layTaken, read}
+use Rattle.reassembly_state.specs.Limits.{fragsMost}
+use Rattle.reassembly_state.specs.Model.{turn, readable, noMessage, messageOf, taken}
+use Rattle.reassembly_state.specs.State.{State, unsound, view, isReadable, reads, shown, layTaken, read}
 use Rattle.reassembly_theorems.proofs.Views.{laid-as-seen}
 
 module _ (s : State) (e : unsound s ≡ false) where

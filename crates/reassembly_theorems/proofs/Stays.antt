@@ -18,11 +18,12 @@ use Rattle.fragments.specs.Words.{size, joined, any}
 use Rattle.fragments.specs.Sets.{setOf}
 use Rattle.fragments.specs.Loose.{reach}
 use Rattle.fragments.proofs.Pool.{Fit, fit-cut, joined-length}
-use Rattle.reassembly_queue.specs.Limits.{fragsMost, bytesMost}
-use Rattle.reassembly_queue.specs.Model.{Queue, held, Given, roomFor, keepOrdered, keepLoose, pushOrdered, pushUnordered, push, turn, readable, Took, taken, skipOrdered, skipUnordered}
-use Rattle.reassembly_queue.specs.State.{State, stateOf, fragments, unsound, view, lay, fragmentOf, pushed, shown, read, forwardOrdered, forwardUnordered, numBytes, fresh}
-use Rattle.reassembly_queue.proofs.Laws.{Sound, sound, held-view, fragments-length, size-held}
-use Rattle.reassembly_queue.proofs.Laid.{sound-lay}
+use Rattle.reassembly_state.specs.Limits.{fragsMost, bytesMost}
+use Rattle.reassembly_state.specs.Model.{Queue, held, Given, roomFor, keepOrdered, keepLoose, pushOrdered, pushUnordered, push, turn, readable, Took, taken, skipOrdered, skipUnordered}
+use Rattle.reassembly_state.specs.State.{State, fragments, unsound, view, lay, fragmentOf, pushed, shown, read, forwardOrdered, forwardUnordered, numBytes}
+use Rattle.reassembly_queue.specs.Queue.{stateOf, fresh}
+use Rattle.reassembly_state.proofs.Laws.{Sound, sound, held-view, fragments-length, size-held}
+use Rattle.reassembly_state.proofs.Laid.{sound-lay}
 use Rattle.reassembly_theorems.proofs.Within.{Within, ordered-within, loose-within, turn-within, skip-ordered-within, skip-unordered-within}
 
 -- ── a queue that has room in its table and in a pool of n bytes ──

@@ -4,11 +4,11 @@ use mathlib.Core.Path.{_≡_}
 use mathlib.Core.Bool.{false}
 use lib.ListN.{length}
 use Rattle.fragments.proofs.Pool.{Fit}
-use Rattle.reassembly_queue.specs.Limits.{fragsMost}
-use Rattle.reassembly_queue.specs.Model.{Queue, held}
-use Rattle.reassembly_queue.specs.State.{State, unsound, view, lay}
-use Rattle.reassembly_queue.proofs.Laws.{sound, lay-own}
-use Rattle.reassembly_queue.proofs.Laid.{view-lay}
+use Rattle.reassembly_state.specs.Limits.{fragsMost}
+use Rattle.reassembly_state.specs.Model.{Queue, held}
+use Rattle.reassembly_state.specs.State.{State, unsound, view, lay}
+use Rattle.reassembly_state.proofs.Laws.{sound, lay-own}
+use Rattle.reassembly_state.proofs.Laid.{view-lay}
 
 -- on every sound state, forged ones too
 pub laid-as-seen : (s : State) → unsound s ≡ false → length (s .rows) ≡ fragsMost → lay (view s) s ≡ s

@@ -18,8 +18,8 @@ use Rattle.fragments.specs.declared.loose.Span.{Span}
 use Rattle.fragments.proofs.Pool.{Fit, fit-append, fit-turned, size-append, size-turned}
 use Rattle.fragments.proofs.Words.{stored-in, stored-new, while-past}
 use Rattle.fragments.proofs.Scan.{scan-within}
-use Rattle.reassembly_queue.specs.Model.{Queue, queue, held, gives, keepOrdered, moveRun, keepLoose, throughEnd, readySet, orderedTurn, finishedTurn, turn, skipOrdered, notAfter, skipUnordered}
-use Rattle.reassembly_queue.proofs.Parts.{turned-middle}
+use Rattle.reassembly_state.specs.Model.{Queue, queue, held, gives, keepOrdered, moveRun, keepLoose, throughEnd, readySet, orderedTurn, finishedTurn, turn, skipOrdered, notAfter, skipUnordered}
+use Rattle.reassembly_state.proofs.Parts.{turned-middle}
 
 -- ── lists that are no larger ──
 

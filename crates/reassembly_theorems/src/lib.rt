@@ -1,5 +1,5 @@
-// Theorems about the promises of crate `reassembly_queue`: what is laid is what is seen again, every call leaves a sound queue sound, a
-// message comes exactly where the queue is readable, and P9 to P11 of the bench sheet. They stand in proofs/, as in `chunk_theorems`.
+// Theorems about the promises of crate `reassembly_queue`: what is laid is what is seen again, every call leaves a sound queue sound, and a
+// message comes exactly where the queue is readable. They stand in proofs/, as in `chunk_theorems`.
 pub fn stated() -> bool {
     true
 }

@@ -1,18 +1,11 @@
--- `payload_queue::PayloadQueue::len` meets its contract: an unsound queue is refused, and else the held records say.
+-- `payload_queue::PayloadQueue::len` meets its contract: the call below has the same counts.
 -- Assumes nothing.
-use mathlib.Core.Path.{sym, _∙_}
 use borrow.Author.Needs.{needs}
-use Rattle.payload_queue.specs.Queue.{counted}
 use Rattle.payload_queue.proofs.PayloadQueue.len.Statement.{statement}
 use Rattle.payload_queue.proofs.PayloadQueue.len.Tie as tie
 
-refused : tie.Need-returns
-unfolding counted
-refused c = rw (sym (c .before .unsound .ensures) ∙ c .if1 .taken)
-
-sound : tie.Need-returns-2
-unfolding counted
-sound c = rw (sym (c .before .unsound .ensures) ∙ c .if1 .left)
+told : tie.Need-returns
+told c = rw (c .before .counts .ensures) at (c .len .ensures)
 
 pub len-spec : {M : Type 1} → statement M
-len-spec = tie.close (tie.spec (λ c κs. search needs) refused sound)
+len-spec = tie.close (tie.spec (λ c κs. search needs) (λ c κs. search needs) told)

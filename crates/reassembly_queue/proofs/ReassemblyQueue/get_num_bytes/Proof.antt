@@ -1,21 +1,11 @@
--- `reassembly_queue::ReassemblyQueue::get_num_bytes` meets its contract: the byte count of a sound queue is the sum of the held lengths.
+-- `reassembly_queue::ReassemblyQueue::get_num_bytes` meets its contract: the call below has the same counts.
 -- Assumes nothing.
-use mathlib.Core.Path.{sym, _∙_}
 use borrow.Author.Needs.{needs}
-use Rattle.reassembly_queue.specs.State.{numBytes}
-use Rattle.reassembly_queue.proofs.Laws.{sound, size-held}
 use Rattle.reassembly_queue.proofs.ReassemblyQueue.get_num_bytes.Statement.{statement}
 use Rattle.reassembly_queue.proofs.ReassemblyQueue.get_num_bytes.Tie as tie
 
-refused : tie.Need-returns
-unfolding numBytes
-refused c = rw (sym (c .before .unsound .ensures) ∙ c .if1 .taken)
-
-counted : tie.Need-returns-2
-unfolding numBytes
-counted c =
-    let e = sym (c .before .unsound .ensures) ∙ c .if1 .left in
-    rw (e, size-held _ (sound _ e))
+told : tie.Need-returns
+told c = rw (c .before .counts .ensures) at (c .get-num-bytes .ensures)
 
 pub get-num-bytes-spec : {M : Type 1} → statement M
-get-num-bytes-spec = tie.close (tie.spec (λ c κs. search needs) refused counted)
+get-num-bytes-spec = tie.close (tie.spec (λ c κs. search needs) (λ c κs. search needs) told)

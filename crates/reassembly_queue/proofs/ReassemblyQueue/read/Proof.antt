@@ -1,24 +1,11 @@
--- `reassembly_queue::ReassemblyQueue::read` meets its contract: an unsound queue is refused, and else the message in turn is taken.
+-- `reassembly_queue::ReassemblyQueue::read` meets its contract: the call below takes the same counts, and gives those of the queue that is left.
 -- Assumes nothing.
-use mathlib.Core.Path.{sym, _∙_}
-use native.Mathlib.Omega.{arith}
 use borrow.Author.Needs.{needs}
-use Rattle.reassembly_queue.specs.State.{read}
 use Rattle.reassembly_queue.proofs.ReassemblyQueue.read.Statement.{statement}
 use Rattle.reassembly_queue.proofs.ReassemblyQueue.read.Tie as tie
 
-refused : tie.Need-returns
-unfolding read
-refused c = rw (sym (c .before .unsound .ensures) ∙ c .if1 .taken)
-
-fits : tie.Need-take-requires
-fits c κs = let e = c .before .before .before in (omega arith, sym (e .before .unsound .ensures) ∙ e .if1 .left)
-
-taken : tie.Need-returns-2
-unfolding read
-taken c =
-    let e = c .before .before .before .before .before .before .before .before in
-    rw (sym (e .before .unsound .ensures) ∙ e .if1 .left) (c .before .before .before .before .take .ensures)
+told : tie.Need-returns
+told c = rw (c .queue-of .ensures) (rw (c .before .before .before .before .before .before .before .before .before .counts .ensures) at (c .before .before .before .before .before .read .ensures))
 
 pub read-spec : {M : Type 1} → statement M
-read-spec = tie.close (tie.spec (λ c κs. search needs) (λ c. search needs) refused fits (λ c. search needs) (λ c. search needs) taken)
+read-spec = tie.close (tie.spec (λ c κs. search needs) (λ c κs. search needs) (λ c κs. search needs) (λ c. search needs) (λ c. search needs) told)

@@ -1,0 +1,5 @@
+pub mod Limits
+pub mod Queue
+pub mod Answers
+pub mod GapCall
+pub mod Run

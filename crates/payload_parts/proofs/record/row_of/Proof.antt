@@ -1,0 +1,14 @@
+-- `payload_parts::record::row_of` meets its contract: each word is put together as the row says.
+-- Assumes nothing.
+use borrow.Author.Needs.{needs}
+use Rattle.chunk_payload_data.specs.Data.{dataSent}
+use Rattle.payload_model.specs.Queue.{rowOf}
+use Rattle.payload_parts.proofs.record.row_of.Statement.{statement}
+use Rattle.payload_parts.proofs.record.row_of.Tie as tie
+
+returns : tie.Need-returns
+unfolding rowOf dataSent
+returns c = let t = c .before .before in rw (t .before .flags-of .ensures, t .to-u32 .ensures)
+
+pub row-of-spec : {M : Type 1} → statement M
+row-of-spec = tie.close (tie.spec (λ c κs. search needs) (λ c κs. search needs) (λ c. search needs) (λ c. search needs) (λ c. search needs) (λ c. search needs) (λ c. search needs) (λ c. search needs) (λ c. search needs) returns)

@@ -1,0 +1,113 @@
+// What the calls of the TSN queue are made of: the test of its counts, the log, records, and the calls that only tell a count.
+ghost use mathlib.Core.Path.{_≡_};
+ghost use mathlib.Core.List.{List};
+ghost use Prim.Native.Nat.{ℕ, _*_, _≤_};
+ghost use lib.ListN.{length, take};
+ghost use Rattle.wire.specs.BigEndian.{over};
+ghost use Rattle.table.specs.Rows.{rowsOf, kept};
+ghost use Rattle.payload_model.specs.Limits.{tsnsMost, logMost};
+ghost use Rattle.payload_model.specs.Queue.{queueOf, unsound, logged, staysAfter, zeros, counted, isEmpty, numBytes};
+ghost use Rattle.payload_model.specs.Answers.{flagTold, numberTold};
+
+pub mod record;
+
+use payload_model::Counts;
+use payload_model::Flag;
+use payload_model::LOG;
+use payload_model::Number;
+use payload_model::TSNS;
+use payload_model::WORDS;
+
+// The first n places of the log, and zeros.
+pub fn handed(log: [u32; LOG], n: usize) -> [u32; LOG]
+    requires { ⌜ n ≤ logMost ⌝ }
+    ensures { λ r. ⌜ r ≡ over zeros (take n log) ⌝ }
+{
+    let mut out = [0u32; LOG];
+    let mut i: usize = 0;
+    while i < n {
+        out[i] = log[i];
+        i += 1;
+    }
+    out
+}
+
+// The records of the first n that are after a TSN, moved to the front; answers how many they are.
+pub fn keep_after(table: &mut [u32], n: usize, tsn: u32) -> usize
+    requires { ⌜ length (now table) ≡ 4 * tsnsMost ⌝ }
+    requires { ⌜ n ≤ tsnsMost ⌝ }
+    ensures { λ r. ⌜ r ≡ length (kept (staysAfter tsn) (take n (rowsOf tsnsMost (now (table .entry))))) ⌝ }
+    ensures { λ _. ⌜ rowsOf tsnsMost (now (table .exit)) ≡ over (rowsOf tsnsMost (now (table .entry))) (kept (staysAfter tsn) (take n (rowsOf tsnsMost (now (table .entry))))) ⌝ }
+{
+    let mut left: usize = 0;
+    let mut i: usize = 0;
+    while i < n {
+        let row = table::row_at(table, TSNS, i);
+        i += 1;
+        if !serial::sna32lte(row.tsn, tsn) {
+            table::set_row(table, TSNS, left, row);
+            left += 1;
+        }
+    }
+    left
+}
+
+// Refusal 0: a count above its table, or a byte count that is not the sum of the held lengths.
+pub fn unsound(counts: Counts, table: &[u32]) -> bool
+    requires { ⌜ length (now table) ≡ 4 * tsnsMost ⌝ }
+    ensures { λ r. ⌜ r ≡ unsound (queueOf counts (now (table .entry))) ⌝ }
+{
+    let count = counts.count;
+    if TSNS < count {
+        return true;
+    }
+    if LOG < counts.dups {
+        return true;
+    }
+    let sum = table::sum_short(table, TSNS, 0, count);
+    sum != counts.n_bytes
+}
+
+// The queue with a TSN logged, where the log has room.
+pub fn logged(counts: Counts, tsn: u32) -> Counts
+    ensures { λ r. ⌜ ((ws : List ℕ) → queueOf r ws ≡ logged (queueOf counts ws) tsn) ⌝ }
+{
+    let at = counts.dups;
+    if LOG <= at {
+        return counts;
+    }
+    let mut queue = counts;
+    queue.dup_tsn[at] = tsn;
+    queue.dups = at + 1;
+    queue
+}
+
+// The sum of the held data lengths.
+pub fn get_num_bytes(counts: Counts, table: &[u32; WORDS]) -> Number
+    ensures { λ r. ⌜ numberTold r ≡ numBytes (queueOf counts (now (table .entry))) ⌝ }
+{
+    if unsound(counts, table) {
+        return Number::Refused(0);
+    }
+    Number::Is(counts.n_bytes)
+}
+
+// How many TSNs are held.
+pub fn len(counts: Counts, table: &[u32; WORDS]) -> Number
+    ensures { λ r. ⌜ numberTold r ≡ counted (queueOf counts (now (table .entry))) ⌝ }
+{
+    if unsound(counts, table) {
+        return Number::Refused(0);
+    }
+    Number::Is(counts.count)
+}
+
+// Whether none is held.
+pub fn is_empty(counts: Counts, table: &[u32; WORDS]) -> Flag
+    ensures { λ r. ⌜ flagTold r ≡ isEmpty (queueOf counts (now (table .entry))) ⌝ }
+{
+    if unsound(counts, table) {
+        return Flag::Refused(0);
+    }
+    Flag::Is(counts.count == 0)
+}

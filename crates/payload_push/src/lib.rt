@@ -1,0 +1,72 @@
+// A TSN that comes: whether it can be pushed, and pushing it.
+ghost use mathlib.Core.Path.{_≡_};
+ghost use Rattle.payload_model.specs.Queue.{queueOf, after, rowOf, pushed, canPush};
+ghost use Rattle.payload_model.specs.Answers.{flagTold};
+use chunk_payload_data::ChunkPayloadData;
+use payload_model::Counts;
+use payload_model::Flag;
+use payload_model::Pushed;
+use payload_model::TSNS;
+use payload_model::WORDS;
+
+// Whether the TSN is neither held nor at or before the cumulative one.
+pub fn can_push(counts: Counts, table: &[u32; WORDS], tsn: u32, cumulative: u32) -> Flag
+    ensures { λ r. ⌜ flagTold r ≡ canPush (queueOf counts (now (table .entry))) tsn cumulative ⌝ }
+{
+    if payload_parts::unsound(counts, table) {
+        return Flag::Refused(0);
+    }
+    let count = counts.count;
+    if table::has_tsn(table, TSNS, 0, count, tsn) {
+        return Flag::Is(false);
+    }
+    Flag::Is(!serial::sna32lte(tsn, cumulative))
+}
+
+// Stores the chunk by its TSN: true; or logs its TSN where it is held or old: false; 8 where no room is left.
+pub fn push(
+    counts: Counts,
+    table: &mut [u32; WORDS],
+    chunk: ChunkPayloadData,
+    size: u16,
+    cumulative: u32,
+) -> Pushed
+    ensures { λ r. ⌜ after (flagTold (r .answer)) (queueOf (r .queue) (now (table .exit))) ≡ pushed (queueOf counts (now (table .entry))) (rowOf chunk size) cumulative ⌝ }
+{
+    if payload_parts::unsound(counts, table) {
+        return Pushed {
+            answer: Flag::Refused(0),
+            queue: counts,
+        };
+    }
+    let count = counts.count;
+    let row = payload_parts::record::row_of(chunk, size);
+    let tsn = row.tsn;
+    if table::has_tsn(table, TSNS, 0, count, tsn) {
+        return Pushed {
+            answer: Flag::Is(false),
+            queue: payload_parts::logged(counts, tsn),
+        };
+    }
+    if serial::sna32lte(tsn, cumulative) {
+        return Pushed {
+            answer: Flag::Is(false),
+            queue: payload_parts::logged(counts, tsn),
+        };
+    }
+    if TSNS <= count {
+        return Pushed {
+            answer: Flag::Refused(8),
+            queue: counts,
+        };
+    }
+    let at = table::place_tsn(table, TSNS, 0, count, tsn);
+    table::put_row(table, TSNS, count, at, row);
+    let mut queue = counts;
+    queue.count = count + 1;
+    queue.n_bytes = queue.n_bytes + size as usize;
+    Pushed {
+        answer: Flag::Is(true),
+        queue,
+    }
+}

@@ -1,0 +1,138 @@
+// Skips: incomplete ordered sets up to an SSN, and loose unordered fragments up to a TSN, dropped.
+ghost use mathlib.Core.Path.{_≡_};
+ghost use mathlib.Core.Bool.{false, not, _&&_};
+ghost use Prim.Native.Nat.{_+_, _*_, _≤_, _<_};
+ghost use mathlib.Core.List.{map};
+ghost use lib.ListN.{length, getD, take, drop};
+ghost use Rattle.serial.specs.Serial.{atOrBefore};
+ghost use Rattle.table.specs.Rows.{blank, rowsOf, aheadOf};
+ghost use Rattle.fragments.specs.Frag.{bare, ofRow, ssnOf};
+ghost use Rattle.fragments.specs.Sets.{otherSsn, complete};
+ghost use Rattle.reassembly_state.specs.Limits.{fragsMost};
+ghost use Rattle.reassembly_state.specs.Model.{dropIncomplete};
+ghost use Rattle.reassembly_state.specs.Answers.{doneTold};
+ghost use Rattle.reassembly_state.specs.State.{stateOf, unsound, view, lay, after, forwardOrdered, forwardUnordered};
+use reassembly_state::Counts;
+use reassembly_state::Done;
+use reassembly_state::FRAGMENTS;
+use reassembly_state::Forwarded;
+use reassembly_state::WORDS;
+
+// How many rows the set that starts at an index has, among n rows.
+fn set_at(table: &[u32], at: usize, n: usize) -> usize
+    requires { ⌜ length (now table) ≡ 4 * fragsMost ⌝ }
+    requires { ⌜ at + n ≤ fragsMost ⌝ }
+    requires { ⌜ 0 < n ⌝ }
+    ensures { λ r. ⌜ r ≡ aheadOf (ofRow (otherSsn (ssnOf (bare (getD (rowsOf fragsMost (now (table .entry))) at blank))))) (take n (drop at (rowsOf fragsMost (now (table .entry))))) ⌝ }
+{
+    let first = table::row_at(table, FRAGMENTS, at);
+    fragments::sets::run_ssn(table, FRAGMENTS, at, n, (first.id % 65536) as u16)
+}
+
+// Whether the set of k rows at an index is incomplete and at or before an SSN.
+fn passed_over(table: &[u32], at: usize, k: usize, last_ssn: u16) -> bool
+    requires { ⌜ length (now table) ≡ 4 * fragsMost ⌝ }
+    requires { ⌜ at + k ≤ fragsMost ⌝ }
+    requires { ⌜ 0 < k ⌝ }
+    ensures { λ r. ⌜ r ≡ (atOrBefore 16 (ssnOf (bare (getD (rowsOf fragsMost (now (table .entry))) at blank))) «last_ssn» && not (complete (map bare (take k (drop at (rowsOf fragsMost (now (table .entry)))))))) ⌝ }
+{
+    let first = table::row_at(table, FRAGMENTS, at);
+    if !serial::sna16lte((first.id % 65536) as u16, last_ssn) {
+        return false;
+    }
+    !fragments::sets::is_complete(table, FRAGMENTS, at, k)
+}
+
+// The queue without them: the sets that stay move down, one by one.
+fn drop_incomplete(queue: Counts, table: &mut [u32], pool: &mut [u8], last_ssn: u16) -> Counts
+    requires { ⌜ length (now table) ≡ 4 * fragsMost ⌝ }
+    requires { ⌜ unsound (stateOf queue (now table) (now pool)) ≡ false ⌝ }
+    ensures { λ r. ⌜ stateOf r (now (table .exit)) (now (pool .exit)) ≡ lay (dropIncomplete (view (stateOf queue (now (table .entry)) (now (pool .entry)))) «last_ssn») (stateOf queue (now (table .entry)) (now (pool .entry))) ⌝ }
+{
+    let from = queue.finished + queue.unordered;
+    let held = from + queue.ordered;
+    let mut at = from;
+    let mut off = fragments::sum_long(table, FRAGMENTS, 0, from);
+    let mut kept = at;
+    let mut bytes = off;
+    while at < held {
+        let first = at;
+        let place = off;
+        let k = set_at(table, first, held - first);
+        let size = fragments::sum_long(table, FRAGMENTS, first, k);
+        at += k;
+        off += size;
+        if !passed_over(table, first, k, last_ssn) {
+            fragments::move_down(table, FRAGMENTS, pool, kept, first, k, bytes, place, off);
+            kept += k;
+            bytes += size;
+        }
+    }
+    let mut left = queue;
+    left.ordered = kept - from;
+    left.n_bytes = bytes;
+    left
+}
+
+// Drops incomplete sets at or before an SSN, and expects the one after it.
+pub fn forward_tsn_for_ordered(
+    counts: Counts,
+    table: &mut [u32; WORDS],
+    pool: &mut [u8],
+    last_ssn: u16,
+) -> Forwarded
+    ensures { λ r. ⌜ after (doneTold (r .answer)) (stateOf (r .queue) (now (table .exit)) (now (pool .exit))) ≡ forwardOrdered (stateOf counts (now (table .entry)) (now (pool .entry))) «last_ssn» ⌝ }
+{
+    if counts.unsound(table, pool) {
+        return Forwarded {
+            answer: Done::Refused(0),
+            queue: counts,
+        };
+    }
+    let mut queue = drop_incomplete(counts, table, pool, last_ssn);
+    if serial::sna16lte(queue.next_ssn, last_ssn) {
+        queue.next_ssn = serial::ssn_next(last_ssn);
+        return Forwarded {
+            answer: Done::All,
+            queue,
+        };
+    }
+    Forwarded {
+        answer: Done::All,
+        queue,
+    }
+}
+
+// Drops loose unordered fragments from the front up to the first one after a TSN.
+pub fn forward_tsn_for_unordered(
+    counts: Counts,
+    table: &mut [u32; WORDS],
+    pool: &mut [u8],
+    new_cumulative_tsn: u32,
+) -> Forwarded
+    ensures { λ r. ⌜ after (doneTold (r .answer)) (stateOf (r .queue) (now (table .exit)) (now (pool .exit))) ≡ forwardUnordered (stateOf counts (now (table .entry)) (now (pool .entry))) «new_cumulative_tsn» ⌝ }
+{
+    if counts.unsound(table, pool) {
+        return Forwarded {
+            answer: Done::Refused(0),
+            queue: counts,
+        };
+    }
+    let count = counts.finished + (counts.unordered + counts.ordered);
+    let at = counts.finished;
+    let k = fragments::loose::find_after(
+        table,
+        FRAGMENTS,
+        at,
+        counts.unordered,
+        new_cumulative_tsn,
+    );
+    let bytes = fragments::remove_fragments(table, FRAGMENTS, count, pool, counts.n_bytes, at, k);
+    let mut queue = counts;
+    queue.unordered = queue.unordered - k;
+    queue.n_bytes = queue.n_bytes - bytes;
+    Forwarded {
+        answer: Done::All,
+        queue,
+    }
+}

@@ -1,0 +1,139 @@
+// An ordered chunk of the queue's own stream, pushed into a sound queue.
+ghost use mathlib.Core.Path.{_≡_};
+ghost use mathlib.Core.Bool.{false};
+ghost use Prim.Native.Nat.{_+_, _*_, _≤_, _<_};
+ghost use lib.ListN.{length};
+ghost use Rattle.reassembly_state.specs.Limits.{fragsMost, bytesMost};
+ghost use Rattle.chunks.specs.Message.{flagTold};
+ghost use Rattle.reassembly_state.specs.Model.{roomFor, keepOrdered, pushOrdered};
+ghost use Rattle.reassembly_state.specs.State.{stateOf, unsound, count, view, after, laid, fragmentOf};
+ghost use Rattle.reassembly_state.specs.Rows.{setAt, setRun};
+use chunk_payload_data::ChunkPayloadData;
+use chunks::Flag;
+use reassembly_state::Counts;
+use reassembly_state::FRAGMENTS;
+use reassembly_state::Pushed;
+use reassembly_state::record;
+use reassembly_state::room;
+
+// The first fragment of a set, which goes to its place by SSN.
+fn new_set(
+    queue: Counts,
+    table: &mut [u32],
+    pool: &mut [u8],
+    chunk: ChunkPayloadData,
+    user_data: &[u8],
+) -> Pushed
+    requires { ⌜ length (now table) ≡ 4 * fragsMost ⌝ }
+    requires { ⌜ unsound (stateOf queue (now table) (now pool)) ≡ false ⌝ }
+    requires { ⌜ count queue < fragsMost ⌝ }
+    requires { ⌜ queue .«n_bytes» + length (now «user_data») ≤ bytesMost ⌝ }
+    requires { ⌜ setRun (stateOf queue (now table) (now pool)) (chunk .«stream_sequence_number») ≡ 0 ⌝ }
+    ensures { λ r. ⌜ after (flagTold (r .answer)) (stateOf (r .queue) (now (table .exit)) (now (pool .exit))) ≡ laid (stateOf queue (now (table .entry)) (now (pool .entry))) (keepOrdered (view (stateOf queue (now (table .entry)) (now (pool .entry)))) (fragmentOf chunk (now («user_data» .entry)))) ⌝ }
+{
+    let more = user_data.len();
+    let row = record::row_of(chunk, more);
+    let ssn = chunk.stream_sequence_number;
+    let from = queue.finished + queue.unordered;
+    let place = from + fragments::sets::place_ssn(table, FRAGMENTS, from, queue.ordered, ssn);
+    let held = queue.finished + (queue.unordered + queue.ordered);
+    fragments::put_fragment(
+        table,
+        FRAGMENTS,
+        held,
+        pool,
+        queue.n_bytes,
+        place,
+        row,
+        user_data,
+    );
+    let mut grown = queue;
+    grown.ordered = grown.ordered + 1;
+    grown.n_bytes = grown.n_bytes + more;
+    Pushed {
+        answer: Flag::Is(chunk.beginning_fragment & chunk.ending_fragment),
+        queue: grown,
+    }
+}
+
+// One more fragment of the set of run rows at index at, which goes to its place by TSN and takes the set's payload identifier over.
+fn join_set(
+    queue: Counts,
+    table: &mut [u32],
+    pool: &mut [u8],
+    chunk: ChunkPayloadData,
+    user_data: &[u8],
+    at: usize,
+    run: usize,
+) -> Pushed
+    requires { ⌜ length (now table) ≡ 4 * fragsMost ⌝ }
+    requires { ⌜ unsound (stateOf queue (now table) (now pool)) ≡ false ⌝ }
+    requires { ⌜ count queue < fragsMost ⌝ }
+    requires { ⌜ queue .«n_bytes» + length (now «user_data») ≤ bytesMost ⌝ }
+    requires { ⌜ at ≡ setAt (stateOf queue (now table) (now pool)) (chunk .«stream_sequence_number») ⌝ }
+    requires { ⌜ run ≡ setRun (stateOf queue (now table) (now pool)) (chunk .«stream_sequence_number») ⌝ }
+    requires { ⌜ 0 < run ⌝ }
+    ensures { λ r. ⌜ after (flagTold (r .answer)) (stateOf (r .queue) (now (table .exit)) (now (pool .exit))) ≡ laid (stateOf queue (now (table .entry)) (now (pool .entry))) (keepOrdered (view (stateOf queue (now (table .entry)) (now (pool .entry)))) (fragmentOf chunk (now («user_data» .entry)))) ⌝ }
+{
+    let more = user_data.len();
+    let mut row = record::row_of(chunk, more);
+    let first = table::row_at(table, FRAGMENTS, at);
+    row.ppi = first.ppi;
+    let place = at + table::place_tsn(table, FRAGMENTS, at, run, row.tsn);
+    let held = queue.finished + (queue.unordered + queue.ordered);
+    fragments::put_fragment(
+        table,
+        FRAGMENTS,
+        held,
+        pool,
+        queue.n_bytes,
+        place,
+        row,
+        user_data,
+    );
+    let complete = fragments::sets::is_complete(table, FRAGMENTS, at, run + 1);
+    let mut grown = queue;
+    grown.ordered = grown.ordered + 1;
+    grown.n_bytes = grown.n_bytes + more;
+    Pushed {
+        answer: Flag::Is(complete),
+        queue: grown,
+    }
+}
+
+// Refusals and answers in document 01's order, and nothing changed ahead of storing.
+pub fn push(
+    queue: Counts,
+    table: &mut [u32],
+    pool: &mut [u8],
+    chunk: ChunkPayloadData,
+    user_data: &[u8],
+) -> Pushed
+    requires { ⌜ length (now table) ≡ 4 * fragsMost ⌝ }
+    requires { ⌜ unsound (stateOf queue (now table) (now pool)) ≡ false ⌝ }
+    ensures { λ r. ⌜ after (flagTold (r .answer)) (stateOf (r .queue) (now (table .exit)) (now (pool .exit))) ≡ laid (stateOf queue (now (table .entry)) (now (pool .entry))) (pushOrdered (roomFor (view (stateOf queue (now (table .entry)) (now (pool .entry)))) (fragmentOf chunk (now («user_data» .entry)))) (view (stateOf queue (now (table .entry)) (now (pool .entry)))) (fragmentOf chunk (now («user_data» .entry)))) ⌝ }
+{
+    let ssn = chunk.stream_sequence_number;
+    let from = queue.finished + queue.unordered;
+    let ahead = fragments::sets::find_ssn(table, FRAGMENTS, from, queue.ordered, ssn);
+    let at = from + ahead;
+    let run = fragments::sets::run_ssn(table, FRAGMENTS, at, queue.ordered - ahead, ssn);
+    let more = user_data.len();
+    let size = fragments::sum_long(table, FRAGMENTS, at, run);
+    if room::above(queue.max_message_size, size, more) {
+        return room::unchanged(queue, Flag::Refused(6));
+    }
+    if serial::sna16lt(ssn, queue.next_ssn) {
+        return room::unchanged(queue, Flag::Is(false));
+    }
+    if table::has_tsn(table, FRAGMENTS, at, run, chunk.tsn) {
+        return room::unchanged(queue, Flag::Is(false));
+    }
+    if !room::has_room(queue, more) {
+        return room::unchanged(queue, Flag::Refused(8));
+    }
+    if run == 0 {
+        return new_set(queue, table, pool, chunk, user_data);
+    }
+    join_set(queue, table, pool, chunk, user_data, at, run)
+}

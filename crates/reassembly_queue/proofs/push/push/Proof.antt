@@ -1,0 +1,47 @@
+-- `reassembly_queue::push::push` meets its contract: an unsound queue is refused, another stream is answered false, and else the chunk goes by its mark U.
+-- Assumes nothing.
+use mathlib.Core.Path.{_≡_, sym, _∙_}
+use mathlib.Core.Bool.{false}
+use native.Mathlib.Omega.{arith}
+use borrow.Author.Needs.{needs}
+use lib.ListN.{length}
+use Rattle.table.proofs.Columns.{rows-long}
+use Rattle.reassembly_state.specs.Limits.{fragsMost}
+use Rattle.reassembly_state.specs.State.{State, stateOf, unsound, pushed}
+use Rattle.reassembly_queue.proofs.Pushes.{push-other, push-unordered, push-ordered}
+use Rattle.reassembly_queue.proofs.push.push.Statement.{statement}
+use Rattle.reassembly_queue.proofs.push.push.Tie as tie
+
+-- the queue that is lent, and that it is sound
+abbrev of : tie.Else1 → State
+of c = let s = c .before .before .before .before .before .before .before in stateOf (s .args .counts) (s .args .table .now) (s .args .pool .now)
+
+ok : (c : tie.Else1) → unsound (of c) ≡ false
+ok c = sym (c .before .unsound .ensures) ∙ c .if1 .left
+
+full : (c : tie.Else1) → length (of c .rows) ≡ fragsMost
+full c = rows-long fragsMost (c .before .before .before .before .before .before .before .args .table .now) (omega arith)
+
+refused : tie.Need-returns
+unfolding pushed
+refused c = rw (sym (c .before .unsound .ensures) ∙ c .if1 .taken)
+
+other : tie.Need-returns-2
+other c = let e = c .before .before .before in push-other (of e) (ok e) _ _ (full e) (c .if2 .taken)
+
+unordered : tie.Need-returns-3
+unordered c =
+    let t = c .before .before .before .before .before in
+    let e = c .before .before .before .before .before .before .before .before .before in
+    c .before .before .push .ensures ∙ push-unordered (of e) (ok e) _ _ (t .before .if2 .left) (t .if3 .taken)
+
+ordered : tie.Need-returns-4
+ordered c =
+    let t = c .before .before .before .before .before in
+    let e = c .before .before .before .before .before .before .before .before .before in
+    c .before .before .push2 .ensures ∙ push-ordered (of e) (ok e) _ _ (t .before .if2 .left) (t .if3 .left)
+
+pub push-spec : {M : Type 1} → statement M
+push-spec =
+    tie.close
+    (tie.spec (λ c κs. search needs) (λ c. search needs) refused (λ c. search needs) other (λ c κs. (omega arith, ok (c .before .before .before .before .before .before))) (λ c. search needs) unordered (λ c κs. (omega arith, ok (c .before .before .before .before .before .before))) (λ c. search needs) ordered)

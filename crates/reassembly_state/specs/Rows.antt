@@ -1,0 +1,83 @@
+-- Where things stand among the rows: what the calls' inner functions ask of each other. No promise of a public call names these.
+-- Assumes nothing.
+use mathlib.Core.Path.{_≡_}
+use mathlib.Core.Bool.{Bool, cond}
+use mathlib.Core.List.{List, map}
+use Prim.Native.Nat.{ℕ, _+_, _-_, _≤_}
+use lib.Dec.{ltb, eqb}
+use lib.ListN.{take, drop}
+use Rattle.serial.specs.Serial.{next}
+use Rattle.chunk_payload_data.specs.declared.ChunkPayloadData.{ChunkPayloadData}
+use Rattle.table.specs.Lists.{slice}
+use Rattle.table.specs.Rows.{aheadOf}
+use Rattle.table.specs.declared.Row.{Row}
+use Rattle.fragments.specs.Frag.{Frag, bare, ofRow, hasSsn, tsnBefore}
+use Rattle.fragments.specs.Words.{placed}
+use Rattle.fragments.specs.Sets.{otherSsn}
+use Rattle.fragments.specs.Loose.{runDown, runUp, scanned}
+use Rattle.fragments.specs.declared.loose.Span.{Span}
+use Rattle.reassembly_state.specs.Model.{Queue, queue, Given, moveRun, turn}
+use Rattle.reassembly_state.specs.State.{State, fragments, view}
+use Rattle.reassembly_state.specs.declared.Counts.{Counts}
+
+-- the index of the first ordered fragment, and the rows of the ordered ones
+abbrev pub firstOrdered : State → ℕ
+firstOrdered s = s .queue .finished + s .queue .unordered
+
+abbrev pub orderedRows : State → List Row
+orderedRows s = take (s .queue .ordered) (drop (firstOrdered s) (s .rows))
+
+-- the index of the first row of the first set with this SSN, and how many rows it has; 0 where there is none
+abbrev pub setAt : State → ℕ → ℕ
+setAt s ssn = firstOrdered s + aheadOf (ofRow (hasSsn ssn)) (orderedRows s)
+
+abbrev pub setRun : State → ℕ → ℕ
+setRun s ssn = aheadOf (ofRow (otherSsn ssn)) (drop (aheadOf (ofRow (hasSsn ssn)) (orderedRows s)) (orderedRows s))
+
+-- the rows of the loose unordered fragments
+abbrev pub looseRows : Counts → List Row → List Row
+looseRows q rows = take (q .unordered) (drop (q .finished) rows)
+
+-- how many bytes the message that an unordered chunk belongs to has besides its own
+unfoldable pub neighbours : Counts → List Row → ChunkPayloadData → ℕ
+neighbours q rows p =
+    let l = map bare (looseRows q rows) in
+    cond (p .«beginning_fragment») 0 (runDown (p .tsn) l) + cond (p .«ending_fragment») 0 (runUp (p .tsn) l)
+
+-- a fragment stored among the loose ones, by TSN
+abbrev pub storedLoose : Queue → Frag → Queue
+storedLoose q f = queue (q .si) (q .next) (q .max) (q .finished) (placed (tsnBefore (f .tsn)) f (q .unordered)) (q .ordered)
+
+-- what one scan leaves
+abbrev pub settled : Queue → Given Bool
+settled q = moveRun q (q .unordered) (scanned (q .unordered))
+
+-- the message that is next to be taken stands there, if it is one: a finished one first of all, an ordered one first of the ordered ones
+pub record InTurn (s : State) (t : Span) : Type 0 where
+  pub upward : t .from ≤ t .to
+  pub from : t .from ≡ cond (ltb 0 (s .queue .finished)) 0 (s .queue .finished + s .queue .unordered)
+  pub within : t .to ≤ t .from + cond (ltb 0 (s .queue .finished)) (s .queue .finished) (s .queue .ordered)
+  pub is : turn (view s) .frags ≡ slice (t .from) (t .to) (fragments s)
+
+-- the counts without a message of k fragments and so many bytes
+unfoldable pub withoutMessage : Counts → ℕ → ℕ → ℕ → Counts
+withoutMessage q k bytes ssn =
+    cond (ltb 0 (q .finished))
+    (record {
+      si = q .si;
+      «next_ssn» = q .«next_ssn»;
+      «max_message_size» = q .«max_message_size»;
+      finished = q .finished - k;
+      unordered = q .unordered;
+      ordered = q .ordered;
+      «n_bytes» = q .«n_bytes» - bytes;
+    })
+    (record {
+      si = q .si;
+      «next_ssn» = cond (eqb ssn (q .«next_ssn»)) (next 16 (q .«next_ssn»)) (q .«next_ssn»);
+      «max_message_size» = q .«max_message_size»;
+      finished = q .finished;
+      unordered = q .unordered;
+      ordered = q .ordered - k;
+      «n_bytes» = q .«n_bytes» - bytes;
+    })

@@ -1,0 +1,163 @@
+// The message that is next to be taken: whether there is one, and taking it.
+ghost use mathlib.Core.Path.{_≡_};
+ghost use mathlib.Core.List.{List};
+ghost use mathlib.Core.Bool.{true, false, cond};
+ghost use Prim.Native.Nat.{ℕ, _+_, _*_, _≤_};
+ghost use lib.Dec.{ltb};
+ghost use lib.ListN.{length, take};
+ghost use Rattle.chunks.specs.Message.{flagTold};
+ghost use Rattle.reassembly_state.specs.Limits.{fragsMost};
+ghost use Rattle.reassembly_state.specs.Model.{readySet, taken};
+ghost use Rattle.reassembly_state.specs.State.{stateOf, unsound, count, view, isReadable, reads, read, shown, layTaken};
+ghost use Rattle.reassembly_state.specs.Rows.{InTurn, withoutMessage};
+ghost use Rattle.reassembly_state.specs.Answers.{messageHeld, tookTold};
+use chunk_payload_data::PayloadProtocolIdentifier;
+use chunks::Chunks;
+use chunks::Flag;
+use fragments::loose::Span;
+use reassembly_state::Counts;
+use reassembly_state::FRAGMENTS;
+use reassembly_state::Taken;
+use reassembly_state::Took;
+use reassembly_state::WORDS;
+
+// How many rows the first ordered set has, if it can be taken; else 0.
+fn ready(queue: Counts, table: &[u32]) -> usize
+    requires { ⌜ length (now table) ≡ 4 * fragsMost ⌝ }
+    requires { ⌜ count queue ≤ fragsMost ⌝ }
+    ensures { λ r. ⌜ (r ≤ queue .ordered) × ((pool : List ℕ) → readySet (queue .«next_ssn») (view (stateOf queue (now (table .entry)) pool) .ordered) ≡ take r (view (stateOf queue (now (table .entry)) pool) .ordered)) ⌝ }
+{
+    if queue.ordered == 0 {
+        return 0;
+    }
+    let from = queue.finished + queue.unordered;
+    let first = table::row_at(table, FRAGMENTS, from);
+    let ssn = (first.id % 65536) as u16;
+    if serial::sna16lt(queue.next_ssn, ssn) {
+        return 0;
+    }
+    let run = fragments::sets::run_ssn(table, FRAGMENTS, from, queue.ordered, ssn);
+    if fragments::sets::is_complete(table, FRAGMENTS, from, run) {
+        return run;
+    }
+    0
+}
+
+// Where it stands among the held fragments; an empty run where there is none.
+fn in_turn(queue: Counts, table: &[u32]) -> Span
+    requires { ⌜ length (now table) ≡ 4 * fragsMost ⌝ }
+    requires { ⌜ count queue ≤ fragsMost ⌝ }
+    ensures { λ r. ⌜ ((pool : List ℕ) → InTurn (stateOf queue (now (table .entry)) pool) r) ⌝ }
+{
+    if 0 < queue.finished {
+        let end = fragments::sets::find_end(table, FRAGMENTS, 0, queue.finished) + 1;
+        if end <= queue.finished {
+            return Span { from: 0, to: end };
+        }
+        return Span {
+            from: 0,
+            to: queue.finished,
+        };
+    }
+    let from = queue.unordered;
+    let run = ready(queue, table);
+    Span {
+        from,
+        to: from + run,
+    }
+}
+
+// The queue without a message of k fragments and so many bytes: the oldest finished one, else the first ordered set, with its SSN.
+fn without(queue: Counts, k: usize, bytes: usize, ssn: u16) -> Counts
+    requires { ⌜ bytes ≤ queue .«n_bytes» ⌝ }
+    requires { ⌜ k ≤ cond (ltb 0 (queue .finished)) (queue .finished) (queue .ordered) ⌝ }
+    ensures { λ r. ⌜ r ≡ withoutMessage queue k bytes ssn ⌝ }
+{
+    let mut left = queue;
+    left.n_bytes = queue.n_bytes - bytes;
+    if 0 < queue.finished {
+        left.finished = queue.finished - k;
+        return left;
+    }
+    left.ordered = queue.ordered - k;
+    if ssn == queue.next_ssn {
+        left.next_ssn = serial::ssn_next(ssn);
+    }
+    left
+}
+
+// The message in hand, of so many bytes: an unordered one has SSN 0.
+fn in_hand(ordered: bool, ssn: u16, ppi: u32, size: usize) -> Chunks
+    ensures { λ r. ⌜ messageHeld r ≡ record { comes = true; ssn = cond ordered ssn 0; ppi = shown ppi; size = size; position = 0; given = false } ⌝ }
+{
+    let mut number: u16 = 0;
+    if ordered {
+        number = ssn;
+    }
+    Chunks {
+        ssn: number,
+        ppi: PayloadProtocolIdentifier::from_u32(ppi),
+        size,
+        position: 0,
+        given: false,
+    }
+}
+
+// Takes it to the front of the lent buffer.
+fn take(queue: Counts, table: &mut [u32], pool: &mut [u8], buffer: &mut [u8]) -> Taken
+    requires { ⌜ length (now table) ≡ 4 * fragsMost ⌝ }
+    requires { ⌜ unsound (stateOf queue (now table) (now pool)) ≡ false ⌝ }
+    ensures { λ r. ⌜ reads (tookTold (r .answer)) (stateOf (r .queue) (now (table .exit)) (now (pool .exit))) (now (buffer .exit)) ≡ layTaken (stateOf queue (now (table .entry)) (now (pool .entry))) (taken shown (view (stateOf queue (now (table .entry)) (now (pool .entry)))) (now (buffer .entry))) ⌝ }
+{
+    let turn = in_turn(queue, table);
+    let from = turn.from;
+    let k = turn.to - from;
+    if k == 0 {
+        return Taken {
+            answer: Took::Nothing,
+            queue,
+        };
+    }
+    let size = fragments::sum_long(table, FRAGMENTS, from, k);
+    if buffer.len() < size {
+        return Taken {
+            answer: Took::Refused(10),
+            queue,
+        };
+    }
+    let off = fragments::sum_long(table, FRAGMENTS, 0, from);
+    wire::put_bytes(buffer, &pool[off..off + size]);
+    let first = table::row_at(table, FRAGMENTS, from);
+    let ssn = (first.id % 65536) as u16;
+    let held = queue.finished + (queue.unordered + queue.ordered);
+    fragments::remove_fragments(table, FRAGMENTS, held, pool, queue.n_bytes, from, k);
+    Taken {
+        answer: Took::Message(in_hand(queue.finished == 0, ssn, first.ppi, size)),
+        queue: without(queue, k, size, ssn),
+    }
+}
+
+// Whether a message can be taken.
+pub fn is_readable(counts: Counts, table: &[u32; WORDS], pool: &[u8]) -> Flag
+    ensures { λ r. ⌜ flagTold r ≡ isReadable (stateOf counts (now (table .entry)) (now (pool .entry))) ⌝ }
+{
+    if counts.unsound(table, pool) {
+        return Flag::Refused(0);
+    }
+    let turn = in_turn(counts, table);
+    Flag::Is(turn.from < turn.to)
+}
+
+// Takes the oldest finished unordered message, else the first ordered set if it is complete and not after the expected one, to the front
+// of the lent buffer; 10 where that is too short.
+pub fn read(counts: Counts, table: &mut [u32; WORDS], pool: &mut [u8], buffer: &mut [u8]) -> Taken
+    ensures { λ r. ⌜ reads (tookTold (r .answer)) (stateOf (r .queue) (now (table .exit)) (now (pool .exit))) (now (buffer .exit)) ≡ read (stateOf counts (now (table .entry)) (now (pool .entry))) (now (buffer .entry)) ⌝ }
+{
+    if counts.unsound(table, pool) {
+        return Taken {
+            answer: Took::Refused(0),
+            queue: counts,
+        };
+    }
+    take(counts, table, pool, buffer)
+}

@@ -1,0 +1,151 @@
+// An unordered chunk of the queue's own stream, pushed into a sound queue.
+ghost use mathlib.Core.Path.{_≡_};
+ghost use mathlib.Core.Bool.{false};
+ghost use Prim.Native.Nat.{_+_, _*_, _≤_, _<_};
+ghost use lib.Dec.{ltb};
+ghost use lib.ListN.{length, take};
+ghost use Rattle.table.specs.Rows.{rowsOf, total};
+ghost use Rattle.fragments.specs.Frag.{longLength};
+ghost use Rattle.reassembly_state.specs.Limits.{fragsMost, bytesMost};
+ghost use Rattle.chunks.specs.Message.{flagTold};
+ghost use Rattle.reassembly_state.specs.Model.{roomFor, pushUnordered};
+ghost use Rattle.reassembly_state.specs.State.{stateOf, unsound, count, view, lay, after, laid, fragmentOf};
+ghost use Rattle.reassembly_state.specs.Rows.{neighbours, storedLoose, settled};
+use chunk_payload_data::ChunkPayloadData;
+use chunks::Flag;
+use reassembly_state::Counts;
+use reassembly_state::FRAGMENTS;
+use reassembly_state::Pushed;
+use reassembly_state::record;
+use reassembly_state::room;
+
+// How many bytes the message that an unordered chunk belongs to has besides its own.
+fn reach(queue: Counts, table: &[u32], chunk: ChunkPayloadData) -> usize
+    requires { ⌜ length (now table) ≡ 4 * fragsMost ⌝ }
+    requires { ⌜ count queue ≤ fragsMost ⌝ }
+    ensures { λ r. ⌜ r ≡ neighbours queue (rowsOf fragsMost (now (table .entry))) chunk ⌝ }
+{
+    let from = queue.finished;
+    let loose = queue.unordered;
+    if chunk.beginning_fragment {
+        if chunk.ending_fragment {
+            return 0;
+        }
+        return fragments::loose::run_up(table, FRAGMENTS, from, loose, chunk.tsn);
+    }
+    let down = fragments::loose::run_down(table, FRAGMENTS, from, loose, chunk.tsn);
+    if chunk.ending_fragment {
+        return down;
+    }
+    let up = fragments::loose::run_up(table, FRAGMENTS, from, loose, chunk.tsn);
+    down + up
+}
+
+// Whether the message that an unordered chunk belongs to is above the maximum with so many bytes more. Where all that is held is not, it is not.
+fn too_large(queue: Counts, table: &[u32], chunk: ChunkPayloadData, more: usize) -> bool
+    requires { ⌜ length (now table) ≡ 4 * fragsMost ⌝ }
+    requires { ⌜ count queue ≤ fragsMost ⌝ }
+    requires { ⌜ total longLength (take (count queue) (rowsOf fragsMost (now table))) ≡ queue .«n_bytes» ⌝ }
+    ensures { λ r. ⌜ r ≡ ltb (queue .«max_message_size») (neighbours queue (rowsOf fragsMost (now (table .entry))) chunk + more) ⌝ }
+{
+    if !room::above(queue.max_message_size, queue.n_bytes, more) {
+        return false;
+    }
+    let bytes = reach(queue, table, chunk);
+    room::above(queue.max_message_size, bytes, more)
+}
+
+// A loose fragment stored at its place by TSN.
+fn store_loose(
+    queue: Counts,
+    table: &mut [u32],
+    pool: &mut [u8],
+    chunk: ChunkPayloadData,
+    user_data: &[u8],
+) -> Counts
+    requires { ⌜ length (now table) ≡ 4 * fragsMost ⌝ }
+    requires { ⌜ unsound (stateOf queue (now table) (now pool)) ≡ false ⌝ }
+    requires { ⌜ count queue < fragsMost ⌝ }
+    requires { ⌜ queue .«n_bytes» + length (now «user_data») ≤ bytesMost ⌝ }
+    ensures { λ r. ⌜ stateOf r (now (table .exit)) (now (pool .exit)) ≡ lay (storedLoose (view (stateOf queue (now (table .entry)) (now (pool .entry)))) (fragmentOf chunk (now («user_data» .entry)))) (stateOf queue (now (table .entry)) (now (pool .entry))) ⌝ }
+{
+    let more = user_data.len();
+    let row = record::row_of(chunk, more);
+    let from = queue.finished;
+    let loose = queue.unordered;
+    let held = from + (loose + queue.ordered);
+    let place = from + table::place_tsn(table, FRAGMENTS, from, loose, row.tsn);
+    fragments::put_fragment(
+        table,
+        FRAGMENTS,
+        held,
+        pool,
+        queue.n_bytes,
+        place,
+        row,
+        user_data,
+    );
+    let mut grown = queue;
+    grown.unordered = loose + 1;
+    grown.n_bytes = grown.n_bytes + more;
+    grown
+}
+
+// One scan: the first whole message goes to the finished ones.
+fn settle(queue: Counts, table: &mut [u32], pool: &mut [u8]) -> Pushed
+    requires { ⌜ length (now table) ≡ 4 * fragsMost ⌝ }
+    requires { ⌜ unsound (stateOf queue (now table) (now pool)) ≡ false ⌝ }
+    ensures { λ r. ⌜ after (flagTold (r .answer)) (stateOf (r .queue) (now (table .exit)) (now (pool .exit))) ≡ laid (stateOf queue (now (table .entry)) (now (pool .entry))) (settled (view (stateOf queue (now (table .entry)) (now (pool .entry))))) ⌝ }
+{
+    let from = queue.finished;
+    let loose = queue.unordered;
+    let whole = fragments::loose::scan(table, FRAGMENTS, from, loose);
+    let start = whole.from;
+    let end = whole.to;
+    if start == end {
+        return room::unchanged(queue, Flag::Is(false));
+    }
+    fragments::move_fragments(
+        table,
+        FRAGMENTS,
+        from + (loose + queue.ordered),
+        pool,
+        from,
+        from + start,
+        from + end,
+    );
+    let k = end - start;
+    let mut moved = queue;
+    moved.finished = from + k;
+    moved.unordered = loose - k;
+    Pushed {
+        answer: Flag::Is(true),
+        queue: moved,
+    }
+}
+
+// Refusals and answers in document 01's order, and nothing changed ahead of storing.
+pub fn push(
+    queue: Counts,
+    table: &mut [u32],
+    pool: &mut [u8],
+    chunk: ChunkPayloadData,
+    user_data: &[u8],
+) -> Pushed
+    requires { ⌜ length (now table) ≡ 4 * fragsMost ⌝ }
+    requires { ⌜ unsound (stateOf queue (now table) (now pool)) ≡ false ⌝ }
+    ensures { λ r. ⌜ after (flagTold (r .answer)) (stateOf (r .queue) (now (table .exit)) (now (pool .exit))) ≡ laid (stateOf queue (now (table .entry)) (now (pool .entry))) (pushUnordered (roomFor (view (stateOf queue (now (table .entry)) (now (pool .entry)))) (fragmentOf chunk (now («user_data» .entry)))) (view (stateOf queue (now (table .entry)) (now (pool .entry)))) (fragmentOf chunk (now («user_data» .entry)))) ⌝ }
+{
+    let more = user_data.len();
+    if too_large(queue, table, chunk, more) {
+        return room::unchanged(queue, Flag::Refused(6));
+    }
+    if table::has_tsn(table, FRAGMENTS, queue.finished, queue.unordered, chunk.tsn) {
+        return room::unchanged(queue, Flag::Is(false));
+    }
+    if !room::has_room(queue, more) {
+        return room::unchanged(queue, Flag::Refused(8));
+    }
+    let grown = store_loose(queue, table, pool, chunk, user_data);
+    settle(grown, table, pool)
+}

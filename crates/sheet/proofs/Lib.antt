@@ -1,0 +1,4 @@
+pub mod Fronts
+pub mod Steps
+pub mod Reassembled
+pub mod Sheet

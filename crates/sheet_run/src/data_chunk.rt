@@ -1,0 +1,105 @@
+// DATA: P2 is written and what was written is read; P4 is P2 with another length.
+use crate::show;
+use chunk::Marshalled;
+use chunk_payload_data::ChunkPayloadData;
+use chunk_payload_data::PayloadProtocolIdentifier;
+use chunk_payload_data::Unmarshalled;
+
+fn fields() -> ChunkPayloadData {
+    ChunkPayloadData {
+        unordered: false,
+        beginning_fragment: true,
+        ending_fragment: true,
+        immediate_sack: false,
+        tsn: 10,
+        stream_identifier: 2,
+        stream_sequence_number: 5,
+        payload_type: PayloadProtocolIdentifier::String,
+    }
+}
+
+pub fn p2() {
+    let mut out = [0u8; 19];
+    let answer = chunk_payload_data::marshal_to(&mut out, fields(), b"abc");
+    print::text(b"P2 ");
+    read(&out);
+    print::text(b": ");
+    match answer {
+        Marshalled::Refused(k) => show::refused(k),
+        Marshalled::Bytes(n) => print::bytes(print::first(&out, n)),
+    }
+    print::text(b".\n");
+}
+
+fn read(raw: &[u8]) {
+    let answer = chunk_payload_data::unmarshal(raw);
+    match answer {
+        Unmarshalled::Refused(k) => show::refused(k),
+        Unmarshalled::Fields(f) => {
+            let mut refusal: u8 = 0;
+            let user = chunk_payload_data::user_data(raw, &mut refusal);
+            flags(f);
+            numbers(f);
+            print::text(b", ");
+            print::quoted(user);
+        }
+    }
+}
+
+fn flags(f: ChunkPayloadData) {
+    print::text(b"DATA, ");
+    if f.unordered {
+        print::text(b"U and ");
+    }
+    if f.beginning_fragment {
+        print::text(b"B and ");
+    }
+    if f.ending_fragment {
+        print::text(b"E");
+    }
+}
+
+fn numbers(f: ChunkPayloadData) {
+    print::text(b", TSN ");
+    print::number(f.tsn as u64);
+    print::text(b", stream ");
+    print::number(f.stream_identifier as u64);
+    print::text(b", SSN ");
+    print::number(f.stream_sequence_number as u64);
+    print::text(b", identifier ");
+    let payload_type = f.payload_type;
+    print::number(payload_type.to_u32() as u64);
+}
+
+pub fn p4() {
+    print::text(b"P4 DATA length 15: ");
+    of_length(15);
+    print::text(b". Length 16: ");
+    of_length(16);
+    print::text(b".\n");
+}
+
+// P2's bytes with this length: the refusal, if fields and user data are refused alike; or what the user data is, and that it is accepted.
+fn of_length(size: u8) {
+    let mut raw = *b"\x00\x03\x00\x13\x00\x00\x00\x0A\x00\x02\x00\x05\x00\x00\x00\x33";
+    raw[3] = size;
+    let mut refusal: u8 = 0;
+    let user = chunk_payload_data::user_data(&raw, &mut refusal);
+    let empty = user.len() == 0;
+    let answer = chunk_payload_data::unmarshal(&raw);
+    match answer {
+        Unmarshalled::Refused(k) => {
+            if refusal == k {
+                show::refused(k);
+            }
+        }
+        Unmarshalled::Fields(_) => {
+            if empty {
+                print::text(b"empty data, ");
+            }
+            if refusal == chunk::ACCEPTED {
+                print::text(b"accepted");
+            }
+        }
+    }
+}

@@ -1,0 +1,67 @@
+// The message in hand.
+use crate::show;
+use chunk_payload_data::PayloadProtocolIdentifier;
+use chunks::Chunks;
+use chunks::Number;
+use chunks::Piece;
+
+// A message of so many bytes, just taken.
+fn message(size: usize) -> Chunks {
+    Chunks {
+        ssn: 0,
+        ppi: PayloadProtocolIdentifier::String,
+        size,
+        position: 0,
+        given: false,
+    }
+}
+
+pub fn p12() {
+    print::text(b"P12 Ten bytes, m = 4: ");
+    let m = piece(message(10), b"1234567890", 4);
+    print::text(b", ");
+    let m = piece(m, b"1234567890", 4);
+    print::text(b", ");
+    let m = piece(m, b"1234567890", 4);
+    print::text(b", ");
+    piece(m, b"1234567890", 4);
+    print::text(b". Empty message: ");
+    let m = piece(message(0), b"", 4);
+    print::text(b", ");
+    piece(m, b"", 4);
+    print::text(b".\n");
+}
+
+// Prints how long the next piece is.
+fn piece(m: Chunks, buffer: &[u8], most: usize) -> Chunks {
+    let next = m.next(buffer, most);
+    let answer = next.answer;
+    match answer {
+        Piece::Refused(k) => show::refused(k),
+        Piece::Nothing => print::text(b"none"),
+        Piece::At(part) => length(part.size),
+    }
+    next.message
+}
+
+fn length(n: usize) {
+    if n == 0 {
+        print::text(b"one empty piece");
+    } else {
+        print::number(n as u64);
+    }
+}
+
+pub fn short_buffer() {
+    let mut out = [0u8; 4];
+    let m = message(6);
+    let answer = m.read(b"abcdef", &mut out);
+    print::text(b"Run only: \"abcdef\" read into 4 bytes: ");
+    print::quoted(&out);
+    print::text(b" and ");
+    match answer {
+        Number::Refused(k) => show::refused(k),
+        Number::Is(n) => print::number(n as u64),
+    }
+    print::text(b".\n");
+}

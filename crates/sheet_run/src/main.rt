@@ -1,0 +1,27 @@
+// Runs the bench sheet of document 01 on the code and prints it line by line: what stands behind "is", ":", "gives" and "reads" is what the
+// calls answer. Crate `sheet` states the same lines of the definitions.
+mod arrivals;
+mod data_chunk;
+mod full;
+mod hand;
+mod numbers;
+mod queued;
+mod sack_chunk;
+mod show;
+
+fn main() {
+    numbers::p1();
+    data_chunk::p2();
+    numbers::p3();
+    data_chunk::p4();
+    sack_chunk::p5();
+    queued::p6();
+    queued::p7();
+    queued::p8();
+    arrivals::p9();
+    arrivals::p10();
+    arrivals::p11();
+    hand::p12();
+    full::fragments();
+    hand::short_buffer();
+}
