@@ -166,7 +166,7 @@ function numbers(text,    s) {
 }
 
 { numbers($0); column = "" }
-/^\|/ {
+FILENAME ~ /TRACE/ && /^\|/ {
     split($0, cell, "|")
     crates = ""
     column = "definition"; read_text(cell[3])

@@ -43,23 +43,23 @@ pub fn run_ssn(table: &[u32], size: usize, from: usize, n: usize, ssn: u16) -> u
     i
 }
 
-// The place of a new SSN: right after the last row whose SSN is before it, or first.
+// The place of a new SSN: right after the last row whose SSN is before it, or first. From the end, since most come last.
 pub fn place_ssn(table: &[u32], size: usize, from: usize, n: usize, ssn: u16) -> usize
     requires { ⌜ length (now table) ≡ 4 * size ⌝ }
     requires { ⌜ from + n ≤ size ⌝ }
     ensures { λ r. ⌜ r ≡ upToLast (ofRow (ssnBefore ssn)) (take n (drop from (rowsOf size (now (table .entry))))) ⌝ }
 {
     let ids = 2 * size + from;
-    let mut place: usize = 0;
-    let mut i: usize = 0;
-    while i < n {
-        let held = (table[ids + i] % 65536) as u16;
-        i += 1;
+    let mut place = n;
+    while 0 < place {
+        let at = place - 1;
+        let held = (table[ids + at] % 65536) as u16;
         if serial::sna16lt(held, ssn) {
-            place = i;
+            return place;
         }
+        place = at;
     }
-    place
+    0
 }
 
 // How many rows stand ahead of the first with mark E; n where none has it.

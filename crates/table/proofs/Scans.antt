@@ -44,6 +44,18 @@ module _ (p : Row → Bool) where
   last-before [] r e = rw e
   last-before (x ∷ rs) r e = rw (some-snoc rs r, e, or-false, last-before rs r e)
 
+  -- of k + 1 rows: the last one does, or the last that does is among the k
+  pub last-end : (rs : List Row) (from k q : ℕ) → q ≡ k + 1 → from + k < length rs → p (getD rs (from + k) blank) ≡ true → upToLast p (take q (drop from rs)) ≡ q
+  last-end rs from k q e h b =
+      rw (e, rows-more rs from k h, last-here (take k (drop from rs)) (getD rs (from + k) blank) b, length-take-le k (drop from rs) (rw length-drop (omega arith)))
+
+  pub last-passed : (rs : List Row) (from k q : ℕ) → q ≡ k + 1 → from + k < length rs → p (getD rs (from + k) blank) ≡ false → upToLast p (take q (drop from rs)) ≡ upToLast p (take k (drop from rs))
+  last-passed rs from k q e h b = rw (e, rows-more rs from k h) (last-before (take k (drop from rs)) (getD rs (from + k) blank) b)
+
+  pub last-none : upToLast p [] ≡ 0
+  unfolding upToLast
+  last-none = refl
+
   -- one that does has none ahead; one that does not is ahead
   pub ahead-here : (r : Row) (rs : List Row) → p r ≡ true → aheadOf p (r ∷ rs) ≡ 0
   unfolding aheadOf

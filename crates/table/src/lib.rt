@@ -109,23 +109,22 @@ pub fn find_tsn(table: &[u32], size: usize, from: usize, n: usize, tsn: u32) -> 
     i
 }
 
-// The place of a new TSN among the n rows from one on: right after the last one that is before it, or first.
+// The place of a new TSN among the n rows from one on: right after the last one that is before it, or first. From the end, since most come last.
 pub fn place_tsn(table: &[u32], size: usize, from: usize, n: usize, tsn: u32) -> usize
     requires { ⌜ length (now table) ≡ 4 * size ⌝ }
     requires { ⌜ from + n ≤ size ⌝ }
     ensures { λ r. ⌜ r ≡ upToLast (tsnBefore tsn) (take n (drop from (rowsOf size (now (table .entry))))) ⌝ }
 {
     let tsns = size + from;
-    let mut place: usize = 0;
-    let mut i: usize = 0;
-    while i < n {
-        let held = table[tsns + i];
-        i += 1;
-        if serial::sna32lt(held, tsn) {
-            place = i;
+    let mut place = n;
+    while 0 < place {
+        let at = place - 1;
+        if serial::sna32lt(table[tsns + at], tsn) {
+            return place;
         }
+        place = at;
     }
-    place
+    0
 }
 
 // One row put in at index at of the first n.

@@ -1,62 +1,59 @@
--- `fragments::sets::place_ssn` meets its contract: after i turns it is the place among the first i rows.
+-- `fragments::sets::place_ssn` meets its contract: what is passed from the end on is not before the SSN, so the place is among the rest.
 -- Assumes nothing.
 use mathlib.Core.Path.{_≡_, refl, sym, _∙_}
 use mathlib.Core.Bool.{true, false}
 use Prim.Native.Nat.{_+_, _*_, _-_, _≤_}
 use native.Mathlib.Omega.{arith}
-use lib.ListN.{length, getD, take, drop, length-drop}
-use lib.Seq.{length-take-le}
+use lib.ListN.{getD, take, drop}
 use Rattle.table.specs.Rows.{blank, rowsOf, upToLast}
 use Rattle.table.proofs.Columns.{rows-long}
-use Rattle.table.proofs.Scans.{rows-more, last-here, last-before, id-at}
+use Rattle.table.proofs.Scans.{last-end, last-passed, last-none, id-at}
 use Rattle.fragments.specs.Frag.{ofRow, ssnBefore}
 use Rattle.fragments.proofs.sets.place_ssn.Statement.{statement}
 use Rattle.fragments.proofs.sets.place_ssn.Tie as tie
 
 abbrev Inv : tie.InvT-loop
-Inv table size from n ssn ids place₀ i₀ place i =
-    (i ≤ n) × (ids ≡ 2 * size + from) × (place ≡ upToLast (ofRow (ssnBefore ssn)) (take i (drop from (rowsOf size table))))
+Inv table size from n ssn ids place₀ place =
+    (place ≤ n) × (ids ≡ 2 * size + from) × (upToLast (ofRow (ssnBefore ssn)) (take n (drop from (rowsOf size table))) ≡ upToLast (ofRow (ssnBefore ssn)) (take place (drop from (rowsOf size table))))
 
 abbrev μ : tie.MeasureT-loop
-μ table size from n ssn ids place₀ i₀ place i = n - i
+μ table size from n ssn ids place₀ place = place
 
-start : tie.Need-loop-holds Inv μ
-unfolding upToLast
-start c = (omega arith, refl, refl)
-
-later : tie.Need-loop-again Inv μ
-later c =
+here : tie.Need-returns Inv μ
+here c =
     let t = c .before in
     let l = t .before .before .before in
     let s = l .before .before in
     let a = s .args in
-    let n = a .size in
-    let ws = a .table .now in
-    let long = s .pre .0 in
-    let i = l .loop .i in
-    let e = rows-long n ws long in
-    let w = id-at n ws long (a .from + i) (omega arith) {q = 2 * n + a .from + i} (omega arith) in
-    let size : length (take i (drop (a .from) (rowsOf n ws))) ≡ i = length-take-le i (drop (a .from) (rowsOf n ws)) (rw length-drop (omega arith)) in
-    let b : ofRow (ssnBefore (a .ssn)) (getD (rowsOf n ws) (a .from + i) blank) ≡ true = rw (← w) (sym (t .sna16lt .ensures) ∙ c .if1 .taken) in
-    (omega arith, refl, rw (rows-more (rowsOf n ws) (a .from) i (omega arith), last-here (ofRow (ssnBefore (a .ssn))) (take i (drop (a .from) (rowsOf n ws))) (getD (rowsOf n ws) (a .from + i) blank) b, size))
+    let rs = rowsOf (a .size) (a .table .now) in
+    let k = l .loop .place - 1 in
+    let e = rows-long (a .size) (a .table .now) (s .pre .0) in
+    let w = id-at (a .size) (a .table .now) (s .pre .0) (a .from + k) (omega arith) {q = 2 * a .size + a .from + k} (omega arith) in
+    let b : ofRow (ssnBefore (a .ssn)) (getD rs (a .from + k) blank) ≡ true = rw (← w) (sym (t .sna16lt .ensures) ∙ c .if1 .taken) in
+    sym (l .loop .inv .2 ∙ last-end (ofRow (ssnBefore (a .ssn))) rs (a .from) k (l .loop .place) (omega arith) (omega arith) b)
 
-same : tie.Need-loop-again-2 Inv μ
-same c =
+turn : tie.Need-loop-again Inv μ
+turn c =
     let t = c .before in
     let l = t .before .before .before in
     let s = l .before .before in
     let a = s .args in
-    let n = a .size in
-    let ws = a .table .now in
-    let long = s .pre .0 in
-    let i = l .loop .i in
-    let e = rows-long n ws long in
-    let w = id-at n ws long (a .from + i) (omega arith) {q = 2 * n + a .from + i} (omega arith) in
-    let b : ofRow (ssnBefore (a .ssn)) (getD (rowsOf n ws) (a .from + i) blank) ≡ false = rw (← w) (sym (t .sna16lt .ensures) ∙ c .if1 .left) in
-    (omega arith, refl, rw (rows-more (rowsOf n ws) (a .from) i (omega arith), last-before (ofRow (ssnBefore (a .ssn))) (take i (drop (a .from) (rowsOf n ws))) (getD (rowsOf n ws) (a .from + i) blank) b) (l .loop .inv .2))
+    let rs = rowsOf (a .size) (a .table .now) in
+    let k = l .loop .place - 1 in
+    let e = rows-long (a .size) (a .table .now) (s .pre .0) in
+    let w = id-at (a .size) (a .table .now) (s .pre .0) (a .from + k) (omega arith) {q = 2 * a .size + a .from + k} (omega arith) in
+    let b : ofRow (ssnBefore (a .ssn)) (getD rs (a .from + k) blank) ≡ false = rw (← w) (sym (t .sna16lt .ensures) ∙ c .if1 .left) in
+    (omega arith, refl, l .loop .inv .2 ∙ last-passed (ofRow (ssnBefore (a .ssn))) rs (a .from) k (l .loop .place) (omega arith) (omega arith) b)
+
+none : tie.Need-returns-2 Inv μ
+none c =
+    let l = c .before in
+    let a = l .before .before .args in
+    let e : l .loop .place ≡ 0 = omega arith in
+    let i = rw e at (l .loop .inv .2) in
+    sym (i ∙ last-none (ofRow (ssnBefore (a .ssn))))
 
 pub place-ssn-spec : {M : Type 1} → statement M
 place-ssn-spec =
     tie.close
-    (tie.spec Inv μ (λ c. omega arith) (λ c. omega arith) start (λ c. omega arith) (λ c. omega arith) (λ c. omega arith) (λ c. omega arith) (λ c. omega arith) (λ c κs. tt) (λ c. omega arith) later (λ c. omega arith) same
-    (λ c. let l = c .before in let e : l .loop .i ≡ l .before .before .args .n = omega arith in rw e at (l .loop .inv .2)))
+    (tie.spec Inv μ (λ c. omega arith) (λ c. omega arith) (λ c. (omega arith, refl, refl)) (λ c. omega arith) (λ c. omega arith) (λ c. omega arith) (λ c. omega arith) (λ c. omega arith) (λ c κs. tt) here (λ c. omega arith) turn none)
