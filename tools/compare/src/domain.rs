@@ -1,0 +1,115 @@
+//! Document 01's domain for equality: the calls on which the Rust and the rules must answer the same.
+use crate::model::Model;
+use crate::model::fragments::{BYTES, FRAGMENTS, Reassembly};
+use crate::model::tsns::{LOG, TSNS};
+use calls::{Call, Data, Fields, U};
+
+/// More than this the Rust's piece reader reserves at its own risk.
+const PIECE_MOST: u64 = 1 << 20;
+
+/// Whether a call, made in this state, is inside. What the Rust does not have is not: distances, lookups by index, short buffers, forging.
+pub fn inside(model: &Model, call: &Call) -> bool {
+    match call {
+        Call::Sna32 { a, b } => a.wrapping_sub(*b) != 1 << 31,
+        Call::Sna16 { a, b } => a.wrapping_sub(*b) != 1 << 15,
+        Call::Header { raw }
+        | Call::DataUnmarshal { raw }
+        | Call::DataUserData { raw }
+        | Call::SackUnmarshal { raw }
+        | Call::SackBlocks { raw }
+        | Call::SackDuplicates { raw } => padding(raw).iter().all(|b| *b == 0),
+        Call::DataMarshal { room, data, .. } => data.size <= 65_519 && *room >= 16 + data.size,
+        Call::SackMarshal { room, starts, ends, duplicates, .. } => {
+            let entries = starts.len() + duplicates.len();
+            starts.len() == ends.len() && entries <= 16_379 && *room as usize >= 16 + 4 * entries
+        }
+        Call::PqPush { fields, cumulative, .. } => tsn_push(model, fields.tsn, *cumulative),
+        Call::PqGapAckBlocks { cumulative, starts, ends, .. } => model.tsns.blocks(*cumulative).len() <= (*starts).min(*ends) as usize,
+        Call::RqPush { fields, data } => push(&model.reassembly, fields, *data),
+        Call::RqRead { room, .. } => fits(&model.reassembly, *room),
+        Call::RqForwardOrdered { ssn } => ssns(&model.reassembly, &[*ssn, ssn.wrapping_add(1)]),
+        Call::RqForwardUnordered { tsn } => tsns(&model.reassembly, *tsn),
+        Call::MNext { most } => *most <= PIECE_MOST,
+        Call::TsnDistance { .. } | Call::SsnDistance { .. } | Call::SackBlockAt { .. } | Call::SackDuplicateAt { .. } => false,
+        Call::PqForge { .. } | Call::PqWhole {} | Call::RqForge { .. } | Call::RqWhole {} | Call::MForge { .. } => false,
+        _ => true,
+    }
+}
+
+/// The 1 to 3 bytes after the length, which the Rust wants to be 0; none where there are more of them, or where the length is refused.
+pub fn padding(raw: &[u8]) -> &[u8] {
+    let [_, _, high, low, ..] = raw else { return &[] };
+    let length = u16::from_be_bytes([*high, *low]) as usize;
+    if length < 4 || length + 3 < raw.len() { &[] } else { raw.get(length..).unwrap_or(&[]) }
+}
+
+/// Whether numbers of that width lie in one arc shorter than half the round.
+pub fn one_arc(width: u32, mut numbers: impl Iterator<Item = u32>) -> bool {
+    let Some(first) = numbers.next() else { return true };
+    let (mut low, mut high) = (0, 0);
+    for n in numbers {
+        let d = crate::model::serial::distance(width, first, n);
+        (low, high) = (d.min(low), d.max(high));
+    }
+    high - low < 1 << (width - 1)
+}
+
+/// "Room and log not exceeded", "held TSNs distinct and in one arc".
+fn tsn_push(model: &Model, tsn: u32, cumulative: u32) -> bool {
+    let queue = &model.tsns;
+    if queue.turned_away(tsn, cumulative) {
+        return queue.dups < LOG as u64;
+    }
+    queue.count < TSNS as u64 && one_arc(32, queue.held().iter().map(|r| r.tsn).chain([tsn]))
+}
+
+/// The held TSNs and this one lie in one arc.
+fn tsns(queue: &Reassembly, tsn: u32) -> bool {
+    one_arc(32, queue.held().iter().map(|r| r.tsn).chain([tsn]))
+}
+
+/// "SSNs, the expected one among them, in one arc": those of the ordered sets, and these.
+fn ssns(queue: &Reassembly, more: &[u16]) -> bool {
+    let ordered = &queue.held()[(queue.finished + queue.loose) as usize..];
+    one_arc(16, ordered.iter().map(|r| r.ssn()).chain([queue.expected]).chain(more.iter().copied()).map(u32::from))
+}
+
+/// A fragment that is not held, with room for it.
+fn push(queue: &Reassembly, fields: &Fields, data: Data) -> bool {
+    if fields.stream != queue.stream {
+        return true;
+    }
+    let unheld = queue.held().iter().all(|r| r.tsn != fields.tsn);
+    let room = queue.count() < FRAGMENTS as u64 && queue.bytes + data.size as u64 <= BYTES;
+    let arcs = tsns(queue, fields.tsn) && (fields.flags & U != 0 || ssns(queue, &[fields.ssn]));
+    data.size <= 65_519 && unheld && room && arcs
+}
+
+/// The buffer is long enough for the message that is next, if one is.
+fn fits(queue: &Reassembly, room: u32) -> bool {
+    let lists = queue.view();
+    let Some(next) = queue.next(&lists) else { return true };
+    let list = if next.finished { &lists.finished } else { &lists.ordered };
+    let size: usize = list[next.fragments].iter().map(|f| f.bytes.len()).sum();
+    size <= room as usize
+}
+
+#[cfg(test)]
+mod tests {
+    use super::*;
+
+    #[test]
+    fn arcs() {
+        let arc = |numbers: &[u32]| one_arc(32, numbers.iter().copied());
+        assert!(arc(&[]) && arc(&[7]) && arc(&[5, 5 + (1 << 31) - 1]) && arc(&[u32::MAX - 3, 2, 0]));
+        assert!(!arc(&[5, 5 + (1 << 31)]) && !arc(&[0, 1 << 30, 1 << 31]) && !arc(&[0, 1 << 31, 7]));
+        assert!(one_arc(16, [65_535, 32_766].into_iter()) && !one_arc(16, [65_535, 32_767].into_iter()));
+    }
+
+    #[test]
+    fn paddings() {
+        assert_eq!(padding(&[0, 0, 0, 4, 1]), &[1]);
+        assert_eq!(padding(&[0, 0, 0, 4, 1, 2, 3]), &[1, 2, 3]);
+        assert!(padding(&[0, 0, 0, 4, 1, 2, 3, 4]).is_empty() && padding(&[0, 0, 0, 9]).is_empty() && padding(&[0, 0, 0, 3, 1]).is_empty());
+    }
+}

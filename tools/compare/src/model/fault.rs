@@ -1,0 +1,56 @@
+//! Mistakes that the model can be told to make, to see that the comparison finds them.
+
+macro_rules! faults {
+    ($($name:ident $text:literal)*) => {
+        #[derive(Clone, Copy, Debug, PartialEq, Eq)]
+        pub enum Fault { $($name),* }
+
+        impl Fault {
+            pub const ALL: &'static [Fault] = &[$(Fault::$name),*];
+
+            pub fn text(self) -> &'static str {
+                match self { $(Fault::$name => $text),* }
+            }
+        }
+    };
+}
+
+// The first six are document 01's 'Errors that look right'.
+faults! {
+    DuplicateCounted "an ordered duplicate's bytes are counted"
+    DuplicateKept "an unordered duplicate is kept twice"
+    OldBeforeSize "the old SSN is tested before the size"
+    RestartAtB "an ordered set is complete where the unordered scan finds a run"
+    PlainTsns "TSNs are compared as plain numbers"
+    LengthsCut "lengths are cut to 16 bits"
+    GapOfTwo "a block is extended at its end plus 2 too"
+    GapTooShort "the gap report skips 65,535"
+    PopAnywhere "pop does not ask whether the TSN is first"
+    AllInOnePiece "the piece reader hands out all that is left"
+    LastIdentifier "a set's identifier is that of its last arrival"
+    SkipDropsComplete "an ordered skip drops complete sets"
+    HalfWayBefore "at half way one is before the other"
+    SkipKeepsBytes "an unordered skip does not lower the byte count"
+    LogKept "the log's places are not emptied"
+    RoomOneLess "the 128th fragment is turned away"
+    ReadMoves "a whole read moves on to the message's end"
+    FinishedSsn "a finished unordered message has its B's SSN"
+    SetsByArrival "a new SSN set goes last"
+    RestCleared "what stands behind the held records is cleared"
+    EmptyWithoutPiece "an empty message has no piece"
+    LogCountTrusted "a log count above 64 goes unnoticed"
+    IndexAtCount "the entry at the count is looked up"
+    PaddingRefused "bytes after the length are refused, as by the Rust"
+    ExpectedStays "a take leaves the expected SSN"
+    ScanGoesOn "the scan does not forget its start at a break"
+}
+
+/// Which mistake is made, if any.
+#[derive(Clone, Copy, Debug, Default, PartialEq, Eq)]
+pub struct Wrong(pub Option<Fault>);
+
+impl Wrong {
+    pub fn is(self, fault: Fault) -> bool {
+        self.0 == Some(fault)
+    }
+}

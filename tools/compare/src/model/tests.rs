@@ -1,0 +1,172 @@
+//! Document 01's bench sheet, and the run-only cases.
+use super::Model;
+use calls::{Answers, B, Call, Data, E, Fields, U};
+
+fn line(model: &mut Model, call: Call) -> String {
+    let mut line = Vec::new();
+    model.answer(&call, &mut line);
+    String::from_utf8(line).unwrap()
+}
+
+fn alone(call: Call) -> String {
+    line(&mut Model::new(), call)
+}
+
+fn hex(text: &str) -> Vec<u8> {
+    text.split(' ').map(|byte| u8::from_str_radix(byte, 16).unwrap()).collect()
+}
+
+/// An answer's bytes, two digits each, with spaces.
+fn spaced(digits: &str) -> String {
+    digits.as_bytes().chunks(2).map(|byte| std::str::from_utf8(byte).unwrap().to_uppercase()).collect::<Vec<_>>().join(" ")
+}
+
+fn push(flags: u8, tsn: u32, ssn: u16, size: u32) -> Call {
+    Call::RqPush { fields: Fields { flags, tsn, stream: 0, ssn, identifier: 51 }, data: Data { size, seed: b'a' } }
+}
+
+/// A TSN queue that holds these, and its report: blocks, starts, ends.
+fn report(tsns: &[u32], cumulative: u32) -> String {
+    let mut model = Model::new();
+    for tsn in tsns {
+        let fields = Fields { tsn: *tsn, ..Fields::default() };
+        assert_eq!(line(&mut model, Call::PqPush { fields, size: 1, cumulative }), "yes");
+    }
+    line(&mut model, Call::PqGapAckBlocks { cumulative, starts: 2, ends: 2, fill: 0 })
+}
+
+#[test]
+fn p1_distances() {
+    assert_eq!(alone(Call::TsnDistance { a: 5, b: 3 }), "-2");
+    assert_eq!(alone(Call::TsnDistance { a: 4294967295, b: 0 }), "1");
+    assert_eq!(alone(Call::TsnDistance { a: 0, b: 2147483648 }), "-2147483648");
+    assert_eq!(alone(Call::Sna32 { a: 0, b: 2147483648 }), "no no no no");
+    assert_eq!(alone(Call::Sna16 { a: 32768, b: 0 }), "no no no no");
+}
+
+const P2: &str = "00 03 00 13 00 00 00 0A 00 02 00 05 00 00 00 33 61 62 63";
+
+#[test]
+fn p2_data() {
+    let fields = Fields { flags: B | E, tsn: 10, stream: 2, ssn: 5, identifier: 51 };
+    let written = alone(Call::DataMarshal { room: 19, fill: 0, fields, data: Data { size: 3, seed: b'a' } });
+    assert_eq!(spaced(written.strip_prefix("wrote 19 ").unwrap()), P2);
+    assert_eq!(alone(Call::DataUnmarshal { raw: hex(P2) }), "data BE 10 2 5 51");
+    assert_eq!(alone(Call::DataUserData { raw: hex(P2) }), "part 616263");
+}
+
+#[test]
+fn p3_unknown_identifier() {
+    let raw = hex("00 00 00 10 00 00 00 01 00 00 00 00 00 00 00 07");
+    assert_eq!(alone(Call::DataUnmarshal { raw }), "data - 1 0 0 58");
+    let written = alone(Call::DataMarshal { room: 16, fill: 0, fields: Fields { identifier: 7, ..Fields::default() }, data: Data::default() });
+    assert!(written.ends_with("0000003a"), "{written}");
+}
+
+#[test]
+fn p4_short_data() {
+    assert_eq!(alone(Call::DataUnmarshal { raw: hex("00 00 00 0F 00 00 00 01 00 00 00 00 00 00 00") }), "refused 4");
+    assert_eq!(alone(Call::DataUserData { raw: hex("00 00 00 10 00 00 00 01 00 00 00 00 00 00 00 33") }), "part -");
+}
+
+const P5: &str = "03 00 00 1C 00 00 00 64 00 00 05 DC 00 02 00 01 00 02 00 03 00 05 00 05 00 00 00 62";
+
+#[test]
+fn p5_sack() {
+    let call = Call::SackMarshal { room: 28, fill: 0, cumulative: 100, window: 1500, starts: vec![2, 5], ends: vec![3, 5], duplicates: vec![98] };
+    assert_eq!(spaced(alone(call).strip_prefix("wrote 28 ").unwrap()), P5);
+    assert_eq!(alone(Call::SackUnmarshal { raw: hex(P5) }), "sack 100 1500 2 1");
+    assert_eq!(alone(Call::SackBlocks { raw: hex(P5) }), "part 0002000300050005");
+    assert_eq!(alone(Call::SackDuplicates { raw: hex(P5) }), "part 00000062");
+    assert_eq!(alone(Call::SackBlockAt { part: hex("00 02 00 03 00 05 00 05"), index: 1 }), "block 5 5");
+    assert_eq!(alone(Call::SackDuplicateAt { part: hex("00 00 00 62"), index: 1 }), "refused 11");
+}
+
+#[test]
+fn p6_to_p8_gap_reports() {
+    assert_eq!(report(&[102, 103, 105], 100), "blocks 2 starts 2 5 ends 3 5");
+    assert_eq!(report(&[4294967295, 0, 2], 4294967294), "blocks 2 starts 1 4 ends 2 4");
+    assert_eq!(report(&[65534, 65535, 65536], 0), "blocks 1 starts 65534 0 ends 65535 0");
+}
+
+#[test]
+fn p9_unordered_size() {
+    for (size, answer) in [(5, "refused 6"), (4, "yes")] {
+        let mut model = Model::new();
+        line(&mut model, Call::RqNew { stream: 0, maximum: 10 });
+        assert_eq!(line(&mut model, push(U | B, 1, 0, 6)), "no");
+        assert_eq!(line(&mut model, push(U | E, 2, 0, size)), answer);
+    }
+}
+
+#[test]
+fn p10_size_before_old_ssn() {
+    let mut model = Model::new();
+    line(&mut model, Call::RqNew { stream: 0, maximum: 10 });
+    line(&mut model, Call::RqForwardOrdered { ssn: 4 });
+    assert_eq!(model.reassembly.expected, 5);
+    assert_eq!(line(&mut model, push(B | E, 1, 4, 11)), "refused 6");
+    assert_eq!(line(&mut model, push(B | E, 1, 4, 10)), "no");
+}
+
+#[test]
+fn p11_inner_flags() {
+    let mut model = Model::new();
+    assert_eq!(line(&mut model, push(B, 1, 0, 1)), "no");
+    assert_eq!(line(&mut model, push(E, 3, 0, 1)), "no");
+    assert_eq!(line(&mut model, push(B | E, 2, 0, 1)), "yes");
+    assert_eq!(line(&mut model, Call::RqRead { room: 3, fill: 0 }), "message 0 51 3 616161");
+}
+
+#[test]
+fn p12_pieces() {
+    let mut model = Model::new();
+    line(&mut model, push(B | E, 1, 0, 10));
+    line(&mut model, push(B | E, 2, 1, 0));
+    line(&mut model, Call::RqRead { room: 10, fill: 0 });
+    for answer in ["piece 0 4 61626364", "piece 4 4 65666768", "piece 8 2 696a", "none"] {
+        assert_eq!(line(&mut model, Call::MNext { most: 4 }), answer);
+    }
+    line(&mut model, Call::RqRead { room: 0, fill: 0 });
+    assert_eq!(line(&mut model, Call::MNext { most: 4 }), "piece 0 0 -");
+    assert_eq!(line(&mut model, Call::MNext { most: 4 }), "none");
+}
+
+#[test]
+fn the_128th_fragment_is_stored_and_the_129th_is_not() {
+    let mut model = Model::new();
+    for tsn in 1..=128 {
+        assert_eq!(line(&mut model, push(B, 2 * tsn, 0, 1)), "no");
+    }
+    assert_eq!(line(&mut model, push(B, 1000, 0, 1)), "refused 8");
+    assert_eq!(line(&mut model, Call::RqNumBytes {}), "number 128");
+}
+
+#[test]
+fn a_whole_read_into_four_bytes() {
+    let mut model = Model::new();
+    line(&mut model, push(B | E, 1, 0, 6));
+    line(&mut model, Call::RqRead { room: 6, fill: 0 });
+    assert_eq!(line(&mut model, Call::MRead { room: 4, fill: 0 }), "refused 7 61626364");
+    assert_eq!(line(&mut model, Call::MRead { room: 7, fill: 0 }), "number 6 61626364656600");
+}
+
+#[test]
+fn what_is_dropped_stays_behind_what_is_held() {
+    let mut model = Model::new();
+    for tsn in 1..=2 {
+        let fields = Fields { tsn, ..Fields::default() };
+        line(&mut model, Call::PqPush { fields, size: 3, cumulative: 0 });
+    }
+    line(&mut model, Call::PqPop { tsn: 1 });
+    assert_eq!((model.tsns.count, model.tsns.rows[0].tsn, model.tsns.rows[1].tsn), (1, 2, 2));
+}
+
+#[test]
+fn an_unsound_queue_is_refused() {
+    let mut model = Model::new();
+    line(&mut model, Call::PqForge { field: 2, index: 0, value: 65 });
+    assert!(line(&mut model, Call::PqPopDuplicates {}).starts_with("refused 0 0 0"));
+    line(&mut model, Call::RqForge { field: 9, index: 0, value: 32_767 });
+    assert_eq!(line(&mut model, push(B, 1, 0, 1)), "refused 0");
+}

@@ -1,0 +1,63 @@
+//! The calls of docs/DIFFERENCES.md, each as the fewest that show how ours and the Rust part. `tools/oracle/tests` has the Rust's answers to the same.
+use calls::{B, Call, Data, E, Fields, U};
+
+fn fields(flags: u8, tsn: u32, ssn: u16) -> Fields {
+    Fields { flags, tsn, stream: 0, ssn, identifier: 53 }
+}
+
+fn push(flags: u8, tsn: u32, ssn: u16, size: u32) -> Call {
+    Call::RqPush { fields: fields(flags, tsn, ssn), data: Data { size, seed: b'a' } }
+}
+
+fn queued(tsn: u32, cumulative: u32) -> Call {
+    Call::PqPush { fields: fields(B | E, tsn, 0), size: 0, cumulative }
+}
+
+fn read(room: u32) -> Call {
+    Call::RqRead { room, fill: 0 }
+}
+
+fn fresh(calls: impl IntoIterator<Item = Call>) -> Vec<Call> {
+    let start = [Call::PqNew {}, Call::RqNew { stream: 0, maximum: 65_536 }];
+    start.into_iter().chain(calls).chain([Call::PqState {}, Call::RqState {}]).collect()
+}
+
+/// 1 and 2: duplicates.
+fn duplicates() -> Vec<Call> {
+    let ordered = fresh([push(B, 1, 0, 2), push(B, 1, 0, 2), Call::RqState {}, push(E, 2, 0, 0), read(2)]);
+    let unordered = fresh([push(U | B, 1, 0, 2), push(U | B, 1, 0, 2), Call::RqState {}, push(U | E, 2, 0, 1), read(3), push(U | E, 2, 0, 1), read(3)]);
+    [ordered, unordered].concat()
+}
+
+/// 8 and 13: half way round.
+fn half_way() -> Vec<Call> {
+    let numbers = vec![Call::Sna32 { a: 0, b: 1 << 31 }, Call::Sna32 { a: 1 << 31, b: 0 }, Call::Sna16 { a: 0, b: 1 << 15 }, Call::Sna16 { a: 1 << 15, b: 0 }];
+    let given = fresh([push(B | E, 1, 32_768, 1), Call::RqIsReadable {}, read(1)]);
+    let placed = fresh([push(B | E, 1, 32_768, 1), push(B | E, 2, 0, 1), Call::RqState {}, read(1), read(1)]);
+    let skipped = fresh([push(U | B, 1 << 31, 0, 1), Call::RqForwardUnordered { tsn: 0 }]);
+    [numbers, given, placed, skipped].concat()
+}
+
+/// 9 and 15: bytes after the length, and pieces of the largest size.
+fn bytes_and_pieces() -> Vec<Call> {
+    let data = [0, 0, 0, 16, 0, 0, 0, 1, 0, 0, 0, 0, 0, 0, 0, 51, 1].to_vec();
+    let chunks = vec![Call::Header { raw: vec![0, 0, 0, 4, 1] }, Call::DataUnmarshal { raw: data.clone() }, Call::DataUserData { raw: data }];
+    let pieces = fresh([push(B | E, 1, 0, 1), read(1), Call::MNext { most: u64::MAX }, Call::MNext { most: u64::MAX }]);
+    [chunks, pieces].concat()
+}
+
+/// 14: calls on which the Rust stops.
+fn all_the_way_round() -> Vec<Call> {
+    let mut sets: Vec<Call> = (0..18).map(|ssn| push(B | E, 2 * ssn as u32, ssn, 0)).collect();
+    sets.push(Call::RqForwardOrdered { ssn: 20_000 });
+    sets.extend([push(B, 40, 30_000, 0), push(B | E, 42, 40_000, 0), push(B | E, 44, 50_000, 0)]);
+    sets.extend([Call::RqForwardOrdered { ssn: 45_000 }, push(B | E, 46, 9_464, 0)]);
+    let mut tsns: Vec<Call> = (1..=18).map(|tsn| queued(tsn, 0)).collect();
+    tsns.extend([queued(1_000_000_000, 0), queued(3_000_000_000, 2_000_000_000), queued(4_000_000_000, 2_000_000_000)]);
+    tsns.extend([Call::PqPopUpTo { tsn: 2_500_000_000 }, queued(1_205_032_704, 4_000_000_000)]);
+    [fresh(sets), fresh(tsns)].concat()
+}
+
+pub fn calls() -> Vec<Call> {
+    [duplicates(), half_way(), bytes_and_pieces(), all_the_way_round()].concat()
+}

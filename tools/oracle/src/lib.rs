@@ -1,0 +1,62 @@
+//! sctp-proto 0.10.8's receive path, built from its own files unchanged, which answers the calls of docs/CALLS.md.
+extern crate alloc;
+
+include!(concat!(env!("OUT_DIR"), "/sctp.rs"));
+
+mod codec;
+mod panics;
+mod reassembly;
+mod shown;
+mod tsn_queue;
+mod wanted;
+
+use calls::{Answers, Call, words};
+
+// What sctp-proto's files name from its own lib.rs.
+pub use crate::chunk::ErrorCauseCode;
+pub use crate::wanted::{ReliabilityType, StreamId, Transmit};
+
+/// What is linked for the crates that sctp-proto asks for.
+pub const CRATES: &str = env!("ORACLE_CRATES");
+
+/// The Rust's queues and the message in hand.
+#[derive(Default)]
+pub struct Oracle {
+    tsn_queue: tsn_queue::TsnQueue,
+    reassembly: reassembly::Reassembly,
+}
+
+impl Oracle {
+    pub fn new() -> Self {
+        Self::default()
+    }
+
+    fn made(&mut self, call: &Call, line: &mut Vec<u8>) {
+        match call.number() {
+            ..16 => codec::answer(call, line),
+            16..32 => self.tsn_queue.answer(call, line),
+            32..48 => self.reassembly.answer(call, line),
+            48.. => self.reassembly.answer_in_hand(call, line),
+        }
+    }
+
+    /// A queue may be in any order after a panic, so a fresh one takes its place. The message in hand is not altered by the panic it may give.
+    fn renew(&mut self, call: &Call) {
+        match call.number() {
+            16..32 => self.tsn_queue = Default::default(),
+            32..48 => self.reassembly.renew(),
+            _ => {}
+        }
+    }
+}
+
+impl Answers for Oracle {
+    fn answer(&mut self, call: &Call, line: &mut Vec<u8>) {
+        let before = line.len();
+        if let Err(text) = panics::caught(|| self.made(call, line)) {
+            line.truncate(before);
+            words!(line, "panic", text);
+            self.renew(call);
+        }
+    }
+}

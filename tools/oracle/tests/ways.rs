@@ -1,0 +1,104 @@
+//! The ways of the Rust that document 01 turns away from, each as the fewest calls that show it, with the Rust's own answers.
+mod common;
+use calls::{B, Call, Data, E, U};
+use common::*;
+
+#[test]
+fn an_ordered_duplicate_is_counted_for_good() {
+    answered(&[
+        (push(B, 1, 0, 2), "no"),
+        (push(B, 1, 0, 2), "no"),
+        (Call::RqState {}, "queue 0 0 65536 4 | o B 1 0 0 53 6162"),
+        (push(E, 2, 0, 0), "yes"),
+        (read(2), "message 0 53 2 6162"),
+        (Call::RqState {}, "queue 0 1 65536 2"),
+    ]);
+}
+
+#[test]
+fn an_unordered_duplicate_is_held_twice_and_given_twice() {
+    answered(&[
+        (push(U | B, 1, 0, 2), "no"),
+        (push(U | B, 1, 0, 2), "no"),
+        (Call::RqState {}, "queue 0 0 65536 4 | u UB 1 0 0 53 6162 | u UB 1 0 0 53 6162"),
+        (push(U | E, 2, 0, 1), "yes"),
+        (push(U | E, 2, 0, 1), "yes"),
+        (read(3), "message 0 53 3 616261"),
+        (read(3), "message 0 53 3 616261"),
+    ]);
+}
+
+#[test]
+fn half_way_round_is_after_both_ways() {
+    answered(&[(Call::Sna32 { a: 0, b: 1 << 31 }, "no no yes yes"), (Call::Sna32 { a: 1 << 31, b: 0 }, "no no yes yes")]);
+    answered(&[(Call::Sna16 { a: 0, b: 1 << 15 }, "no no yes yes"), (Call::Sna16 { a: 1 << 15, b: 0 }, "no no yes yes")]);
+}
+
+#[test]
+fn a_complete_set_half_way_round_is_not_given() {
+    answered(&[(push(B | E, 1, 32768, 1), "yes"), (Call::RqIsReadable {}, "no"), (read(1), "none 00")]);
+}
+
+#[test]
+fn sets_half_way_round_stay_in_order_of_arrival() {
+    answered(&[
+        (push(B | E, 1, 32768, 1), "yes"),
+        (push(B | E, 2, 0, 1), "yes"),
+        (Call::RqState {}, "queue 0 0 65536 2 | o BE 1 0 32768 53 61 | o BE 2 0 0 53 61"),
+        (read(1), "none 00"),
+    ]);
+}
+
+#[test]
+fn an_unordered_skip_keeps_what_is_half_way_round() {
+    answered(&[
+        (push(U | B, 1 << 31, 0, 1), "no"),
+        (Call::RqForwardUnordered { tsn: 0 }, "done"),
+        (Call::RqState {}, "queue 0 0 65536 1 | u UB 2147483648 0 0 53 61"),
+    ]);
+}
+
+#[test]
+fn lengths_are_cut_to_16_bits() {
+    let mut oracle = oracle::Oracle::new();
+    let data = |size| Call::DataMarshal { room: 65_536, fill: 0, fields: fields(B | E, 1, 0), data: Data { size, seed: 0 } };
+    assert!(answer(&mut oracle, &data(65_519)).starts_with("wrote 65535 0003ffff00000001"));
+    assert!(answer(&mut oracle, &data(65_520)).starts_with("wrote 65536 0003000000000001"));
+    let sack = |n| Call::SackMarshal { room: 65_540, fill: 0, cumulative: 1, window: 2, starts: vec![0; n], ends: vec![0; n], duplicates: vec![] };
+    assert!(answer(&mut oracle, &sack(16_379)).starts_with("wrote 65532 0300fffc0000000100000002"));
+    assert!(answer(&mut oracle, &sack(16_380)).starts_with("wrote 65536 030000000000000100000002"));
+    assert!(answer(&mut oracle, &sack(16_381)).starts_with("wrote 65540 030000040000000100000002"));
+}
+
+#[test]
+fn up_to_three_bytes_after_the_length_must_be_0() {
+    let data = |after: &[u8]| [&hex("00 00 00 10 00 00 00 01 00 00 00 00 00 00 00 33")[..], after].concat();
+    answered(&[
+        (Call::Header { raw: hex("00 00 00 04 01") }, "error ErrChunkHeaderPaddingNonZero"),
+        (Call::DataUnmarshal { raw: data(&[0, 0, 1]) }, "error ErrChunkHeaderPaddingNonZero"),
+        (Call::DataUnmarshal { raw: data(&[0, 0, 0]) }, "data - 1 0 0 51"),
+        (Call::DataUnmarshal { raw: data(&[0, 0, 0, 1]) }, "data - 1 0 0 51"),
+    ]);
+}
+
+#[test]
+fn a_piece_of_the_largest_size_panics_and_moves_nothing() {
+    answered(&[
+        (push(B | E, 1, 0, 1), "yes"),
+        (read(1), "message 0 53 1 61"),
+        (Call::MNext { most: u64::MAX }, "panic capacity overflow"),
+        (Call::MNext { most: 1 << 31 }, "no such answer"),
+        (Call::MNext { most: 1 << 30 }, "piece 0 1 61"),
+    ]);
+}
+
+#[test]
+fn no_limit_of_held_tsns_or_fragments() {
+    let mut oracle = oracle::Oracle::new();
+    (1..=300).for_each(|tsn| assert_eq!(answer(&mut oracle, &queued(tsn, 0)), "yes"));
+    assert_eq!(answer(&mut oracle, &Call::PqLen {}), "number 300");
+    (1..=65).for_each(|tsn| assert_eq!(answer(&mut oracle, &queued(tsn, 0)), "no"));
+    assert_eq!(answer(&mut oracle, &Call::PqPopDuplicates {}), "no such answer");
+    (1..=129).for_each(|i| assert_eq!(answer(&mut oracle, &push(U, 2 * i, 0, 300)), "no"));
+    assert_eq!(answer(&mut oracle, &Call::RqNumBytes {}), "number 38700");
+}
