@@ -1,7 +1,8 @@
 # make run: the main job. make test: the gate. Both need only the kit's rt on the PATH.
+# make lib: the library for C and Rust, target/native/libsctp_receive.a and sctp_receive.h. make host-test: it, called from both (gcc, cargo).
 # make compare: the proved program beside the Rust's own code and a model of document 01 (cargo, a C compiler, sctp-proto's files at SCTP_PROTO_SRC).
 # make compare-record: crates/replies' recorded calls and answers again. make faults: wrong models are found out.
-.PHONY: run test compare compare-record faults clean
+.PHONY: run test lib host-test compare compare-record faults clean
 
 run:
 	@mkdir -p target
@@ -10,6 +11,12 @@ run:
 
 test:
 	@.ci/run
+
+lib:
+	@tools/native-lib
+
+host-test:
+	@tools/host-test
 
 compare:
 	@tools/compare/run

@@ -1,0 +1,5 @@
+pub mod Result
+pub mod Fields
+pub mod States
+pub mod Places
+pub mod Facts

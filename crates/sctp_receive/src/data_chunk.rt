@@ -1,0 +1,111 @@
+// The DATA chunk.
+ghost use mathlib.Core.Path.{_≡_};
+ghost use lib.ListN.{length};
+ghost use Rattle.wire.specs.Refusal.{written};
+ghost use Rattle.chunk.specs.Header.{HeaderFront};
+ghost use Rattle.chunk_payload_data.specs.Data.{DataFront, dataRead, dataWritten};
+ghost use Rattle.sctp_receive.specs.Result.{told};
+ghost use Rattle.sctp_receive.specs.Fields.{chunkFrom, valuesFrom};
+ghost use Rattle.sctp_receive.specs.Places.{span, userSpan};
+use crate::answers;
+use chunk::chunk_header;
+use chunk_payload_data::ChunkPayloadData;
+use chunk_payload_data::PayloadProtocolIdentifier;
+use chunk_payload_data::Unmarshalled;
+
+// The fields of the DATA chunk that the lent bytes begin with; 1 2 3 4.
+#[no_mangle]
+pub extern "C" fn sctp_receive_data_unmarshal(
+    raw: &[u8],
+    unordered: &mut bool,
+    beginning_fragment: &mut bool,
+    ending_fragment: &mut bool,
+    immediate_sack: &mut bool,
+    tsn: &mut u32,
+    stream_identifier: &mut u16,
+    stream_sequence_number: &mut u16,
+    payload_type: &mut u32,
+) -> i32
+    ensures { λ r. ⌜ ((f : DataFront (now (raw .entry))) → told r (valuesFrom (now (unordered .exit)) (now («beginning_fragment» .exit)) (now («ending_fragment» .exit)) (now («immediate_sack» .exit)) (now (tsn .exit)) (now («stream_identifier» .exit)) (now («stream_sequence_number» .exit)) (now («payload_type» .exit))) ≡ dataRead (length (now (raw .entry))) (f .fields)) ⌝ }
+{
+    *unordered = false;
+    *beginning_fragment = false;
+    *ending_fragment = false;
+    *immediate_sack = false;
+    *tsn = 0;
+    *stream_identifier = 0;
+    *stream_sequence_number = 0;
+    *payload_type = 0;
+    let answer = chunk_payload_data::unmarshal(raw);
+    match answer {
+        Unmarshalled::Fields(p) => {
+            *unordered = p.unordered;
+            *beginning_fragment = p.beginning_fragment;
+            *ending_fragment = p.ending_fragment;
+            *immediate_sack = p.immediate_sack;
+            *tsn = p.tsn;
+            *stream_identifier = p.stream_identifier;
+            *stream_sequence_number = p.stream_sequence_number;
+            let name = p.payload_type;
+            *payload_type = name.to_u32();
+            -1
+        }
+        Unmarshalled::Refused(k) => k as i32,
+    }
+}
+
+// Where the user data of the chunk that the lent bytes begin with stands in them: from byte 16 up to the length; 1 2 3 4.
+#[no_mangle]
+pub extern "C" fn sctp_receive_data_user_data(
+    raw: &[u8],
+    start: &mut usize,
+    size: &mut usize,
+) -> i32
+    ensures { λ r. ⌜ ((f : HeaderFront (now (raw .entry))) → told r (span (now (start .exit)) (now (size .exit))) ≡ userSpan (length (now (raw .entry))) (f .fields)) ⌝ }
+{
+    let answer = chunk_header::unmarshal_as(raw, 0, 16, 4);
+    match answer {
+        chunk_header::Unmarshalled::Header(h) => {
+            *start = 16;
+            *size = h.length as usize - 16;
+            -1
+        }
+        chunk_header::Unmarshalled::Refused(k) => {
+            *start = 0;
+            *size = 0;
+            k as i32
+        }
+    }
+}
+
+// The DATA chunk of these fields and this user data, written to the front of the lent buffer; n is its byte count; 9 and 10.
+#[no_mangle]
+pub extern "C" fn sctp_receive_data_marshal_to(
+    out: &mut [u8],
+    unordered: bool,
+    beginning_fragment: bool,
+    ending_fragment: bool,
+    immediate_sack: bool,
+    tsn: u32,
+    stream_identifier: u16,
+    stream_sequence_number: u16,
+    payload_type: u32,
+    user: &[u8],
+    n: &mut usize,
+) -> i32
+    ensures { λ r. ⌜ written (told r (now (n .exit))) (now (out .exit)) ≡ dataWritten (chunkFrom unordered «beginning_fragment» «ending_fragment» «immediate_sack» tsn «stream_identifier» «stream_sequence_number» «payload_type») (now (user .entry)) (now (out .entry)) ⌝ }
+{
+    let name = PayloadProtocolIdentifier::from_u32(payload_type);
+    let fields = ChunkPayloadData {
+        unordered,
+        beginning_fragment,
+        ending_fragment,
+        immediate_sack,
+        tsn,
+        stream_identifier,
+        stream_sequence_number,
+        payload_type: name,
+    };
+    let answer = chunk_payload_data::marshal_to(out, fields, user);
+    answers::marshalled(answer, n)
+}

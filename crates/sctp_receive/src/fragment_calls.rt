@@ -1,0 +1,314 @@
+// Reassembly of one stream. C keeps the queue's numbers, each by itself, and lends the table of 512 words and the pool of at least 32,768 bytes to every call.
+// Refusal 0, before every other answer: a count above its table, a pool shorter than its limit, a place outside the pool, or a byte count that is not the sum of
+// the held lengths. Out values are 0 and false beside a refusal.
+ghost use mathlib.Core.Path.{_≡_};
+ghost use Rattle.reassembly_state.specs.State.{after, pushed, isReadable, reads, read, forwardOrdered, forwardUnordered, numBytes};
+ghost use Rattle.reassembly_queue.specs.Queue.{fresh};
+ghost use Rattle.sctp_receive.specs.Result.{told, done};
+ghost use Rattle.sctp_receive.specs.Fields.{chunkFrom};
+ghost use Rattle.sctp_receive.specs.States.{fragmentCounts, stateFrom, messageFrom};
+use crate::answers;
+use chunk_payload_data::ChunkPayloadData;
+use chunk_payload_data::PayloadProtocolIdentifier;
+use reassembly_queue::ReassemblyQueue;
+use reassembly_queue::WORDS;
+
+// The queue, put back into the fields that C keeps.
+fn put(
+    queue: ReassemblyQueue,
+    si: &mut u16,
+    next_ssn: &mut u16,
+    max_message_size: &mut u32,
+    finished: &mut usize,
+    unordered: &mut usize,
+    ordered: &mut usize,
+    n_bytes: &mut usize,
+)
+    ensures { λ _. ⌜ fragmentCounts (now (si .exit)) (now («next_ssn» .exit)) (now («max_message_size» .exit)) (now (finished .exit)) (now (unordered .exit)) (now (ordered .exit)) (now («n_bytes» .exit)) ≡ queue ⌝ }
+{
+    *si = queue.si;
+    *next_ssn = queue.next_ssn;
+    *max_message_size = queue.max_message_size;
+    *finished = queue.finished;
+    *unordered = queue.unordered;
+    *ordered = queue.ordered;
+    *n_bytes = queue.n_bytes;
+}
+
+// A fresh queue of a stream; the table and the pool may hold anything.
+#[no_mangle]
+pub extern "C" fn sctp_receive_reassembly_queue_new(
+    stream: u16,
+    most: u32,
+    si: &mut u16,
+    next_ssn: &mut u16,
+    max_message_size: &mut u32,
+    finished: &mut usize,
+    unordered: &mut usize,
+    ordered: &mut usize,
+    n_bytes: &mut usize,
+)
+    ensures { λ _. ⌜ fragmentCounts (now (si .exit)) (now («next_ssn» .exit)) (now («max_message_size» .exit)) (now (finished .exit)) (now (unordered .exit)) (now (ordered .exit)) (now («n_bytes» .exit)) ≡ fresh stream most ⌝ }
+{
+    let left = ReassemblyQueue::new(stream, most);
+    put(
+        left,
+        si,
+        next_ssn,
+        max_message_size,
+        finished,
+        unordered,
+        ordered,
+        n_bytes,
+    );
+}
+
+// Stores the chunk with its user data: true where that completes a message. False where it is of another stream, old, or there already;
+// 6 where the message would be too large; 8 where no room is left.
+#[no_mangle]
+pub extern "C" fn sctp_receive_reassembly_queue_push(
+    si: &mut u16,
+    next_ssn: &mut u16,
+    max_message_size: &mut u32,
+    finished: &mut usize,
+    unordered: &mut usize,
+    ordered: &mut usize,
+    n_bytes: &mut usize,
+    table: &mut [u32; WORDS],
+    pool: &mut [u8],
+    is_unordered: bool,
+    beginning_fragment: bool,
+    ending_fragment: bool,
+    immediate_sack: bool,
+    tsn: u32,
+    stream_identifier: u16,
+    stream_sequence_number: u16,
+    payload_type: u32,
+    user_data: &[u8],
+    is: &mut bool,
+) -> i32
+    ensures { λ r. ⌜ after (told r (now (is .exit))) (stateFrom (now (si .exit)) (now («next_ssn» .exit)) (now («max_message_size» .exit)) (now (finished .exit)) (now (unordered .exit)) (now (ordered .exit)) (now («n_bytes» .exit)) (now (table .exit)) (now (pool .exit))) ≡ pushed (stateFrom (now (si .entry)) (now («next_ssn» .entry)) (now («max_message_size» .entry)) (now (finished .entry)) (now (unordered .entry)) (now (ordered .entry)) (now («n_bytes» .entry)) (now (table .entry)) (now (pool .entry))) (chunkFrom «is_unordered» «beginning_fragment» «ending_fragment» «immediate_sack» tsn «stream_identifier» «stream_sequence_number» «payload_type») (now («user_data» .entry)) ⌝ }
+{
+    let queue = ReassemblyQueue {
+        si: *si,
+        next_ssn: *next_ssn,
+        max_message_size: *max_message_size,
+        finished: *finished,
+        unordered: *unordered,
+        ordered: *ordered,
+        n_bytes: *n_bytes,
+    };
+    let name = PayloadProtocolIdentifier::from_u32(payload_type);
+    let chunk = ChunkPayloadData {
+        unordered: is_unordered,
+        beginning_fragment,
+        ending_fragment,
+        immediate_sack,
+        tsn,
+        stream_identifier,
+        stream_sequence_number,
+        payload_type: name,
+    };
+    let pushed = queue.push(table, pool, chunk, user_data);
+    let left = pushed.queue;
+    put(
+        left,
+        si,
+        next_ssn,
+        max_message_size,
+        finished,
+        unordered,
+        ordered,
+        n_bytes,
+    );
+    let answer = pushed.answer;
+    answers::flag(answer, is)
+}
+
+// Whether a message can be taken.
+#[no_mangle]
+pub extern "C" fn sctp_receive_reassembly_queue_is_readable(
+    si: u16,
+    next_ssn: u16,
+    max_message_size: u32,
+    finished: usize,
+    unordered: usize,
+    ordered: usize,
+    n_bytes: usize,
+    table: &[u32; WORDS],
+    pool: &[u8],
+    is: &mut bool,
+) -> i32
+    ensures { λ r. ⌜ told r (now (is .exit)) ≡ isReadable (stateFrom si «next_ssn» «max_message_size» finished unordered ordered «n_bytes» (now (table .entry)) (now (pool .entry))) ⌝ }
+{
+    let queue = ReassemblyQueue {
+        si,
+        next_ssn,
+        max_message_size,
+        finished,
+        unordered,
+        ordered,
+        n_bytes,
+    };
+    let answer = queue.is_readable(table, pool);
+    answers::flag(answer, is)
+}
+
+// Takes the oldest finished unordered message, else the first ordered set if it is complete and not after the expected one, to the front
+// of the lent buffer, if there is one; 10 where the buffer is too short.
+#[no_mangle]
+pub extern "C" fn sctp_receive_reassembly_queue_read(
+    si: &mut u16,
+    next_ssn: &mut u16,
+    max_message_size: &mut u32,
+    finished: &mut usize,
+    unordered: &mut usize,
+    ordered: &mut usize,
+    n_bytes: &mut usize,
+    table: &mut [u32; WORDS],
+    pool: &mut [u8],
+    buffer: &mut [u8],
+    found: &mut bool,
+    ssn: &mut u16,
+    ppi: &mut u32,
+    bytes: &mut usize,
+    position: &mut usize,
+    given: &mut bool,
+) -> i32
+    ensures { λ r. ⌜ reads (told r (messageFrom (now (found .exit)) (now (ssn .exit)) (now (ppi .exit)) (now (bytes .exit)) (now (position .exit)) (now (given .exit)))) (stateFrom (now (si .exit)) (now («next_ssn» .exit)) (now («max_message_size» .exit)) (now (finished .exit)) (now (unordered .exit)) (now (ordered .exit)) (now («n_bytes» .exit)) (now (table .exit)) (now (pool .exit))) (now (buffer .exit)) ≡ read (stateFrom (now (si .entry)) (now («next_ssn» .entry)) (now («max_message_size» .entry)) (now (finished .entry)) (now (unordered .entry)) (now (ordered .entry)) (now («n_bytes» .entry)) (now (table .entry)) (now (pool .entry))) (now (buffer .entry)) ⌝ }
+{
+    let queue = ReassemblyQueue {
+        si: *si,
+        next_ssn: *next_ssn,
+        max_message_size: *max_message_size,
+        finished: *finished,
+        unordered: *unordered,
+        ordered: *ordered,
+        n_bytes: *n_bytes,
+    };
+    let taken = queue.read(table, pool, buffer);
+    let left = taken.queue;
+    put(
+        left,
+        si,
+        next_ssn,
+        max_message_size,
+        finished,
+        unordered,
+        ordered,
+        n_bytes,
+    );
+    let answer = taken.answer;
+    answers::taken(answer, found, ssn, ppi, bytes, position, given)
+}
+
+// Drops incomplete sets at or before an SSN, and expects the one after it.
+#[no_mangle]
+pub extern "C" fn sctp_receive_reassembly_queue_forward_tsn_for_ordered(
+    si: &mut u16,
+    next_ssn: &mut u16,
+    max_message_size: &mut u32,
+    finished: &mut usize,
+    unordered: &mut usize,
+    ordered: &mut usize,
+    n_bytes: &mut usize,
+    table: &mut [u32; WORDS],
+    pool: &mut [u8],
+    last_ssn: u16,
+) -> i32
+    ensures { λ r. ⌜ after (done r) (stateFrom (now (si .exit)) (now («next_ssn» .exit)) (now («max_message_size» .exit)) (now (finished .exit)) (now (unordered .exit)) (now (ordered .exit)) (now («n_bytes» .exit)) (now (table .exit)) (now (pool .exit))) ≡ forwardOrdered (stateFrom (now (si .entry)) (now («next_ssn» .entry)) (now («max_message_size» .entry)) (now (finished .entry)) (now (unordered .entry)) (now (ordered .entry)) (now («n_bytes» .entry)) (now (table .entry)) (now (pool .entry))) «last_ssn» ⌝ }
+{
+    let queue = ReassemblyQueue {
+        si: *si,
+        next_ssn: *next_ssn,
+        max_message_size: *max_message_size,
+        finished: *finished,
+        unordered: *unordered,
+        ordered: *ordered,
+        n_bytes: *n_bytes,
+    };
+    let forwarded = queue.forward_tsn_for_ordered(table, pool, last_ssn);
+    let left = forwarded.queue;
+    put(
+        left,
+        si,
+        next_ssn,
+        max_message_size,
+        finished,
+        unordered,
+        ordered,
+        n_bytes,
+    );
+    let answer = forwarded.answer;
+    answers::forwarded(answer)
+}
+
+// Drops loose unordered fragments from the front up to the first one after a TSN.
+#[no_mangle]
+pub extern "C" fn sctp_receive_reassembly_queue_forward_tsn_for_unordered(
+    si: &mut u16,
+    next_ssn: &mut u16,
+    max_message_size: &mut u32,
+    finished: &mut usize,
+    unordered: &mut usize,
+    ordered: &mut usize,
+    n_bytes: &mut usize,
+    table: &mut [u32; WORDS],
+    pool: &mut [u8],
+    new_cumulative_tsn: u32,
+) -> i32
+    ensures { λ r. ⌜ after (done r) (stateFrom (now (si .exit)) (now («next_ssn» .exit)) (now («max_message_size» .exit)) (now (finished .exit)) (now (unordered .exit)) (now (ordered .exit)) (now («n_bytes» .exit)) (now (table .exit)) (now (pool .exit))) ≡ forwardUnordered (stateFrom (now (si .entry)) (now («next_ssn» .entry)) (now («max_message_size» .entry)) (now (finished .entry)) (now (unordered .entry)) (now (ordered .entry)) (now («n_bytes» .entry)) (now (table .entry)) (now (pool .entry))) «new_cumulative_tsn» ⌝ }
+{
+    let queue = ReassemblyQueue {
+        si: *si,
+        next_ssn: *next_ssn,
+        max_message_size: *max_message_size,
+        finished: *finished,
+        unordered: *unordered,
+        ordered: *ordered,
+        n_bytes: *n_bytes,
+    };
+    let forwarded = queue.forward_tsn_for_unordered(table, pool, new_cumulative_tsn);
+    let left = forwarded.queue;
+    put(
+        left,
+        si,
+        next_ssn,
+        max_message_size,
+        finished,
+        unordered,
+        ordered,
+        n_bytes,
+    );
+    let answer = forwarded.answer;
+    answers::forwarded(answer)
+}
+
+// The number of bytes held.
+#[no_mangle]
+pub extern "C" fn sctp_receive_reassembly_queue_get_num_bytes(
+    si: u16,
+    next_ssn: u16,
+    max_message_size: u32,
+    finished: usize,
+    unordered: usize,
+    ordered: usize,
+    n_bytes: usize,
+    table: &[u32; WORDS],
+    pool: &[u8],
+    n: &mut usize,
+) -> i32
+    ensures { λ r. ⌜ told r (now (n .exit)) ≡ numBytes (stateFrom si «next_ssn» «max_message_size» finished unordered ordered «n_bytes» (now (table .entry)) (now (pool .entry))) ⌝ }
+{
+    let queue = ReassemblyQueue {
+        si,
+        next_ssn,
+        max_message_size,
+        finished,
+        unordered,
+        ordered,
+        n_bytes,
+    };
+    let answer = queue.get_num_bytes(table, pool);
+    answers::number(answer, n)
+}

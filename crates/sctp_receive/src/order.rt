@@ -1,0 +1,84 @@
+// Numbers that wrap: TSNs of 32 bits, SSNs of 16.
+ghost use mathlib.Core.Path.{_≡_};
+ghost use lib.Dec.{eqb};
+ghost use Rattle.serial.specs.Serial.{before, atOrBefore, after, atOrAfter};
+
+// Is the TSN i1 before i2?
+#[no_mangle]
+pub extern "C" fn sctp_receive_sna32lt(i1: u32, i2: u32) -> bool
+    ensures { λ r. ⌜ r ≡ before 32 i1 i2 ⌝ }
+{
+    serial::sna32lt(i1, i2)
+}
+
+// Is the TSN i1 at or before i2?
+#[no_mangle]
+pub extern "C" fn sctp_receive_sna32lte(i1: u32, i2: u32) -> bool
+    ensures { λ r. ⌜ r ≡ atOrBefore 32 i1 i2 ⌝ }
+{
+    serial::sna32lte(i1, i2)
+}
+
+// Is the TSN i1 after i2?
+#[no_mangle]
+pub extern "C" fn sctp_receive_sna32gt(i1: u32, i2: u32) -> bool
+    ensures { λ r. ⌜ r ≡ after 32 i1 i2 ⌝ }
+{
+    serial::sna32gt(i1, i2)
+}
+
+// Is the TSN i1 at or after i2?
+#[no_mangle]
+pub extern "C" fn sctp_receive_sna32gte(i1: u32, i2: u32) -> bool
+    ensures { λ r. ⌜ r ≡ atOrAfter 32 i1 i2 ⌝ }
+{
+    serial::sna32gte(i1, i2)
+}
+
+// Are the TSNs i1 and i2 the same?
+#[no_mangle]
+pub extern "C" fn sctp_receive_sna32eq(i1: u32, i2: u32) -> bool
+    ensures { λ r. ⌜ r ≡ eqb i1 i2 ⌝ }
+{
+    serial::sna32eq(i1, i2)
+}
+
+// Is the SSN i1 before i2?
+#[no_mangle]
+pub extern "C" fn sctp_receive_sna16lt(i1: u16, i2: u16) -> bool
+    ensures { λ r. ⌜ r ≡ before 16 i1 i2 ⌝ }
+{
+    serial::sna16lt(i1, i2)
+}
+
+// Is the SSN i1 at or before i2?
+#[no_mangle]
+pub extern "C" fn sctp_receive_sna16lte(i1: u16, i2: u16) -> bool
+    ensures { λ r. ⌜ r ≡ atOrBefore 16 i1 i2 ⌝ }
+{
+    serial::sna16lte(i1, i2)
+}
+
+// Is the SSN i1 after i2?
+#[no_mangle]
+pub extern "C" fn sctp_receive_sna16gt(i1: u16, i2: u16) -> bool
+    ensures { λ r. ⌜ r ≡ after 16 i1 i2 ⌝ }
+{
+    serial::sna16gt(i1, i2)
+}
+
+// Is the SSN i1 at or after i2?
+#[no_mangle]
+pub extern "C" fn sctp_receive_sna16gte(i1: u16, i2: u16) -> bool
+    ensures { λ r. ⌜ r ≡ atOrAfter 16 i1 i2 ⌝ }
+{
+    serial::sna16gte(i1, i2)
+}
+
+// Are the SSNs i1 and i2 the same?
+#[no_mangle]
+pub extern "C" fn sctp_receive_sna16eq(i1: u16, i2: u16) -> bool
+    ensures { λ r. ⌜ r ≡ eqb i1 i2 ⌝ }
+{
+    serial::sna16eq(i1, i2)
+}

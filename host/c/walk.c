@@ -1,0 +1,285 @@
+/*
+ * walk.c: the C interface, walked through once. An image goes out in four DATA chunks and arrives out of order, over the wrap of the
+ * TSNs, one chunk twice. Each chunk is read and pushed to the TSN queue and to reassembly; the gap report goes into a SACK,
+ * which is read back. Then the message is taken and read, whole and in pieces. Every answer is checked: the last line says
+ * how many, and the program ends with 1 where one is not what document 01 says.
+ */
+#include <stdio.h>
+#include <string.h>
+
+#include "sctp_receive.h"
+
+enum { STREAM = 2, WINDOW = 1500, MAX_MESSAGE = 1000, SEGMENTS = 4, CHUNK = 64 };
+
+static const uint32_t first_tsn = 4294967294u;
+static const char image[] = "software image 7, segment by segment, over the wrap of the TSNs";
+
+static unsigned checks, wrong;
+
+/* Counts a check, and says so where what is seen is not what is wanted. */
+static void same(const char *what, long long seen, long long wanted)
+{
+    checks++;
+    if (seen != wanted) {
+        wrong++;
+        printf("WRONG %s: %lld, not %lld\n", what, seen, wanted);
+    }
+}
+
+/* ---- what C keeps: each queue's numbers beside its table, and the message in hand ---- */
+
+struct tsns {
+    size_t count, n_bytes, dups;
+    uint32_t log[SCTP_RECEIVE_LOG];
+    uint32_t table[SCTP_RECEIVE_TSN_WORDS];
+    uint32_t cumulative;
+};
+
+struct fragments {
+    uint16_t si, next_ssn;
+    uint32_t max_message_size;
+    size_t finished, unordered, ordered, n_bytes;
+    uint32_t table[SCTP_RECEIVE_FRAGMENT_WORDS];
+    uint8_t pool[SCTP_RECEIVE_BYTES];
+};
+
+struct message {
+    bool found;
+    uint16_t ssn;
+    uint32_t ppi;
+    size_t bytes, position;
+    bool given;
+    uint8_t buffer[MAX_MESSAGE];
+};
+
+struct chunk {
+    bool unordered, beginning, ending, immediate;
+    uint32_t tsn;
+    uint16_t stream, ssn;
+    uint32_t ppi;
+    const uint8_t *data;
+    size_t size;
+};
+
+static struct tsns q;
+static struct fragments r;
+static struct message m;
+static uint8_t wire[SEGMENTS][CHUNK];
+static size_t wire_size[SEGMENTS];
+
+/* ---- the sender: the image, cut into DATA chunks ---- */
+
+static void write_chunks(void)
+{
+    size_t whole = sizeof image - 1, each = whole / SEGMENTS;
+    for (size_t i = 0; i < SEGMENTS; i++) {
+        size_t size = i + 1 < SEGMENTS ? each : whole - i * each;
+        int32_t k = sctp_receive_data_marshal_to(wire[i], CHUNK, false, i == 0, i + 1 == SEGMENTS, false, first_tsn + (uint32_t)i,
+                                                 STREAM, 0, SCTP_RECEIVE_BINARY, (const uint8_t *)image + i * each, size,
+                                                 &wire_size[i]);
+        same("DATA is written", k, SCTP_RECEIVE_OK);
+        same("its byte count", (long long)wire_size[i], (long long)(16 + size));
+    }
+}
+
+/* ---- the receiver ---- */
+
+/* The chunk that these bytes begin with. */
+static struct chunk read_chunk(const uint8_t *raw, size_t size)
+{
+    struct chunk c;
+    size_t start;
+    int32_t k = sctp_receive_data_unmarshal(raw, size, &c.unordered, &c.beginning, &c.ending, &c.immediate, &c.tsn, &c.stream, &c.ssn,
+                                            &c.ppi);
+    same("DATA is read", k, SCTP_RECEIVE_OK);
+    k = sctp_receive_data_user_data(raw, size, &start, &c.size);
+    same("its part is read", k, SCTP_RECEIVE_OK);
+    same("it starts at byte 16", (long long)start, 16);
+    c.data = raw + start;
+    return c;
+}
+
+/* Takes the TSN that follows the cumulative one out of the TSN queue, if it is there, and moves the cumulative TSN on. */
+static bool pop_next(void)
+{
+    struct chunk c;
+    bool found;
+    uint16_t size;
+    int32_t k = sctp_receive_payload_queue_pop(&q.count, &q.n_bytes, &q.dups, q.log, q.table, q.cumulative + 1, &found, &c.unordered,
+                                               &c.beginning, &c.ending, &c.immediate, &c.tsn, &c.stream, &c.ssn, &c.ppi, &size);
+    same("TSN queue pop", k, SCTP_RECEIVE_OK);
+    if (found)
+        q.cumulative = c.tsn;
+    else
+        same("nothing popped: its fields are 0", (long long)(c.tsn + c.ppi + c.stream + size), 0);
+    return found;
+}
+
+/* Pushes a chunk to both queues. Answers whether its TSN is new, and says through `whole` whether it completes a message. */
+static bool push(const struct chunk *c, bool *whole)
+{
+    bool fresh;
+    int32_t k = sctp_receive_payload_queue_push(&q.count, &q.n_bytes, &q.dups, q.log, q.table, c->unordered, c->beginning, c->ending,
+                                                c->immediate, c->tsn, c->stream, c->ssn, c->ppi, (uint16_t)c->size, q.cumulative,
+                                                &fresh);
+    same("TSN queue push", k, SCTP_RECEIVE_OK);
+    *whole = false;
+    if (fresh) {
+        k = sctp_receive_reassembly_queue_push(&r.si, &r.next_ssn, &r.max_message_size, &r.finished, &r.unordered, &r.ordered,
+                                               &r.n_bytes, r.table, r.pool, sizeof r.pool, c->unordered, c->beginning, c->ending,
+                                               c->immediate, c->tsn, c->stream, c->ssn, c->ppi, c->data, c->size, whole);
+        same("reassembly push", k, SCTP_RECEIVE_OK);
+    }
+    while (pop_next())
+        ;
+    return fresh;
+}
+
+/* The SACK of what has come, with the duplicates that were logged, written to the front of `out`; answers its byte count. */
+static size_t write_sack(uint8_t *out, size_t room)
+{
+    uint16_t starts[SCTP_RECEIVE_TSNS], ends[SCTP_RECEIVE_TSNS];
+    uint32_t duplicates[SCTP_RECEIVE_LOG];
+    size_t blocks, dups, size;
+    int32_t k = sctp_receive_payload_queue_get_gap_ack_blocks(q.count, q.n_bytes, q.dups, q.log, q.table, q.cumulative, starts,
+                                                              SCTP_RECEIVE_TSNS, ends, SCTP_RECEIVE_TSNS, &blocks);
+    same("gap report", k, SCTP_RECEIVE_OK);
+    k = sctp_receive_payload_queue_pop_duplicates(&q.count, &q.n_bytes, &q.dups, q.log, q.table, &dups, duplicates);
+    same("duplicates", k, SCTP_RECEIVE_OK);
+    k = sctp_receive_sack_marshal_to(out, room, q.cumulative, WINDOW, starts, blocks, ends, blocks, duplicates, dups, &size);
+    same("SACK is written", k, SCTP_RECEIVE_OK);
+    return size;
+}
+
+/* What the sender of the image is to be told after an arrival: at most one block and one duplicate in this walk. */
+struct told {
+    uint32_t cumulative;
+    uint16_t blocks, start, end, duplicates;
+    uint32_t duplicate;
+};
+
+/* Reads a SACK back, prints it and holds it to what it must say. */
+static void read_sack(const uint8_t *raw, size_t size, const struct told *t)
+{
+    uint32_t cumulative, window, tsn;
+    uint16_t blocks, duplicates, start, end;
+    size_t from, part;
+    same("SACK is read", sctp_receive_sack_unmarshal(raw, size, &cumulative, &window, &blocks, &duplicates), SCTP_RECEIVE_OK);
+    same("cumulative TSN", cumulative, t->cumulative);
+    same("window", window, WINDOW);
+    same("blocks", blocks, t->blocks);
+    same("duplicates", duplicates, t->duplicates);
+    printf("SACK %lu,", (unsigned long)cumulative);
+    same("its blocks are found", sctp_receive_sack_gap_ack_blocks(raw, size, &from, &part), SCTP_RECEIVE_OK);
+    for (size_t i = 0; sctp_receive_sack_gap_ack_block_at(raw + from, part, i, &start, &end) == SCTP_RECEIVE_OK; i++) {
+        printf(" block %u-%u", start, end);
+        same("start", start, t->start);
+        same("end", end, t->end);
+    }
+    same("past the blocks: 0", start + end, 0);
+    same("its duplicates are found", sctp_receive_sack_duplicate_tsns(raw, size, &from, &part), SCTP_RECEIVE_OK);
+    for (size_t i = 0; sctp_receive_sack_duplicate_tsn_at(raw + from, part, i, &tsn) == SCTP_RECEIVE_OK; i++) {
+        printf(" duplicate %lu", (unsigned long)tsn);
+        same("duplicate", tsn, t->duplicate);
+    }
+    printf(" (%lu bytes)\n", (unsigned long)size);
+}
+
+/* One chunk arrives: segment i, which must be new or not, and complete the message or not. */
+static void arrive(size_t i, bool is_new, bool completes, const struct told *t)
+{
+    uint8_t sack[CHUNK];
+    bool whole;
+    struct chunk c = read_chunk(wire[i], CHUNK);
+    bool fresh = push(&c, &whole);
+    printf("TSN %lu: %s%s, ", (unsigned long)c.tsn, fresh ? "new" : "twice", whole ? ", the message is whole" : "");
+    same("new", fresh, is_new);
+    same("whole", whole, completes);
+    read_sack(sack, write_sack(sack, sizeof sack), t);
+}
+
+/* Takes the message: first into a buffer that is too short, then to its own. */
+static void take(void)
+{
+    size_t whole = sizeof image - 1;
+    for (size_t room = whole - 1; room <= whole; room++) {
+        int32_t k = sctp_receive_reassembly_queue_read(&r.si, &r.next_ssn, &r.max_message_size, &r.finished, &r.unordered, &r.ordered,
+                                                       &r.n_bytes, r.table, r.pool, sizeof r.pool, m.buffer, room, &m.found, &m.ssn,
+                                                       &m.ppi, &m.bytes, &m.position, &m.given);
+        same("take", k, room < whole ? SCTP_RECEIVE_NO_ROOM : SCTP_RECEIVE_OK);
+        same("found", m.found, room == whole);
+    }
+    printf("taken: SSN %u, identifier %lu, %lu bytes\n", m.ssn, (unsigned long)m.ppi, (unsigned long)m.bytes);
+    same("identifier", m.ppi, SCTP_RECEIVE_BINARY);
+    same("bytes", (long long)m.bytes, (long long)whole);
+    same("nothing stays held", (long long)(r.n_bytes + r.finished + r.unordered + r.ordered), 0);
+    same("the next SSN is expected", r.next_ssn, 1);
+}
+
+/* Reads the message, whole into a buffer that is too short and into one that is not, and then in pieces. */
+static void read_message(void)
+{
+    uint8_t out[sizeof image] = {0}, joined[sizeof image] = {0};
+    size_t n, start, size, got = 0;
+    bool found;
+    same("short whole read", sctp_receive_chunks_read(m.bytes, m.position, m.given, m.buffer, sizeof m.buffer, out, 8, &n),
+         SCTP_RECEIVE_SHORT_BUFFER);
+    same("what fits", memcmp(out, image, 8) + out[8] + (int)n, 0);
+    same("whole read", sctp_receive_chunks_read(m.bytes, m.position, m.given, m.buffer, sizeof m.buffer, out, sizeof out, &n),
+         SCTP_RECEIVE_OK);
+    same("the image", memcmp(out, image, sizeof image), 0);
+    printf("whole: \"%s\"\npieces:", (const char *)out);
+    while (sctp_receive_chunks_next(&m.bytes, &m.position, &m.given, m.buffer, sizeof m.buffer, 25, &found, &start, &size) ==
+               SCTP_RECEIVE_OK &&
+           found) {
+        same("where the last one ended", (long long)start, (long long)got);
+        memcpy(joined + got, m.buffer + start, size);
+        got += size;
+        printf(" %lu", (unsigned long)size);
+    }
+    printf(", none\n");
+    same("the image, piece by piece", memcmp(joined, image, sizeof image), 0);
+}
+
+/* What must be refused, and leaves all as it was. */
+static void refused(void)
+{
+    uint8_t typ, flags;
+    uint16_t size, blocks, duplicates;
+    uint32_t cumulative, window;
+    size_t n = 7;
+    same("no bytes", sctp_receive_header_unmarshal(NULL, 0, &typ, &flags, &size), SCTP_RECEIVE_NO_HEADER);
+    same("3 bytes", sctp_receive_header_unmarshal(wire[0], 3, &typ, &flags, &size), SCTP_RECEIVE_NO_HEADER);
+    same("a length above what is lent", sctp_receive_header_unmarshal(wire[0], 16, &typ, &flags, &size), SCTP_RECEIVE_BAD_LENGTH);
+    same("DATA, and a SACK is asked for", sctp_receive_sack_unmarshal(wire[0], CHUNK, &cumulative, &window, &blocks, &duplicates),
+         SCTP_RECEIVE_OTHER_TYPE);
+    same("a count above the table",
+         sctp_receive_payload_queue_len(SCTP_RECEIVE_TSNS + 1, q.n_bytes, q.dups, q.log, q.table, &n), SCTP_RECEIVE_UNSOUND);
+    same("and 0 beside it", (long long)n, 0);
+}
+
+int main(void)
+{
+    static const struct told after[] = {
+        {4294967293u, 1, 3, 3, 0, 0},
+        {4294967294u, 1, 2, 2, 0, 0},
+        {4294967294u, 1, 2, 2, 1, 4294967294u},
+        {4294967294u, 1, 2, 3, 0, 0},
+        {1, 0, 0, 0, 0, 0},
+    };
+    write_chunks();
+    sctp_receive_payload_queue_new(&q.count, &q.n_bytes, &q.dups, q.log);
+    q.cumulative = first_tsn - 1;
+    sctp_receive_reassembly_queue_new(STREAM, MAX_MESSAGE, &r.si, &r.next_ssn, &r.max_message_size, &r.finished, &r.unordered,
+                                      &r.ordered, &r.n_bytes);
+    arrive(2, true, false, &after[0]);
+    arrive(0, true, false, &after[1]);
+    arrive(0, false, false, &after[2]);
+    arrive(3, true, false, &after[3]);
+    arrive(1, true, true, &after[4]);
+    take();
+    read_message();
+    refused();
+    printf("%u checks, %u wrong\n", checks, wrong);
+    return wrong == 0 ? 0 : 1;
+}

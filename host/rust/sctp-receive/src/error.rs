@@ -1,0 +1,82 @@
+//! Refusals, by document 01's numbers.
+use core::fmt;
+
+/// Why a call said no. `as i32` is document 01's number. A refusal changes nothing; [`Error::ShortBuffer`] alone leaves what fits of the
+/// message in the buffer.
+#[derive(Clone, Copy, Debug, PartialEq, Eq, Hash)]
+#[repr(i32)]
+pub enum Error {
+    /// 0: a queue or message whose numbers contradict its table, pool or buffer. The queues of this crate own theirs, and are proved to stay sound.
+    Unsound = 0,
+    /// 1: fewer than 4 bytes lent.
+    NoHeader = 1,
+    /// 2: chunk length below 4 or above the bytes lent.
+    BadLength = 2,
+    /// 3: not the type asked for (sctp-proto: `ErrChunkTypeNotPayloadData`, `ErrChunkTypeNotSack`).
+    ChunkTypeNotAskedFor = 3,
+    /// 4: DATA length below 16 (`ErrChunkPayloadSmall`).
+    ChunkPayloadSmall = 4,
+    /// 5: SACK length below 16, or below 16 + 4N + 4X.
+    SackTooSmall = 5,
+    /// 6: the message would be above the maximum (`ErrInboundPacketTooLarge`).
+    InboundPacketTooLarge = 6,
+    /// 7: a whole read into too short a buffer (`ErrShortBuffer`).
+    ShortBuffer = 7,
+    /// 8: the table or the pool has no room left.
+    Full = 8,
+    /// 9: DATA above 65,519 bytes, SACK above 16,379 entries, or start and end lists of unequal length.
+    TooLong = 9,
+    /// 10: write or take buffer, or a gap report list, too short.
+    NoRoom = 10,
+    /// 11: list index at or past its count.
+    PastTheList = 11,
+}
+
+impl Error {
+    /// Every refusal, at the place of its number.
+    pub const ALL: [Error; 12] = [
+        Error::Unsound,
+        Error::NoHeader,
+        Error::BadLength,
+        Error::ChunkTypeNotAskedFor,
+        Error::ChunkPayloadSmall,
+        Error::SackTooSmall,
+        Error::InboundPacketTooLarge,
+        Error::ShortBuffer,
+        Error::Full,
+        Error::TooLong,
+        Error::NoRoom,
+        Error::PastTheList,
+    ];
+
+    /// What a result of the library says: -1 is `Ok`. It is proved to have no other numbers than document 01's.
+    #[inline]
+    pub(crate) fn check(result: i32) -> Result<(), Error> {
+        if result == -1 {
+            return Ok(());
+        }
+        debug_assert!((0..12).contains(&result), "document 01 has no refusal {result}");
+        Err(usize::try_from(result).ok().and_then(|k| Self::ALL.get(k)).copied().unwrap_or(Error::Unsound))
+    }
+}
+
+impl fmt::Display for Error {
+    fn fmt(&self, f: &mut fmt::Formatter<'_>) -> fmt::Result {
+        f.write_str(match self {
+            Error::Unsound => "the queue or message is unsound",
+            Error::NoHeader => "fewer than 4 bytes",
+            Error::BadLength => "the chunk's length is below 4 or above what is there",
+            Error::ChunkTypeNotAskedFor => "another chunk type",
+            Error::ChunkPayloadSmall => "DATA shorter than 16 bytes",
+            Error::SackTooSmall => "SACK shorter than its lists",
+            Error::InboundPacketTooLarge => "the message is above the maximum",
+            Error::ShortBuffer => "the buffer is shorter than the message",
+            Error::Full => "no room is left",
+            Error::TooLong => "longer than a chunk can be, or lists of unequal length",
+            Error::NoRoom => "the buffer or list is too short",
+            Error::PastTheList => "past the end of the list",
+        })
+    }
+}
+
+impl core::error::Error for Error {}

@@ -1,0 +1,265 @@
+/*
+ * sctp_receive.h: the receive part of SCTP, proved, for C.
+ *
+ * Every function here is proved (crates/sctp_receive) to answer and to leave exactly what document 01 says, for any contents of
+ * what it is lent. It allocates nothing, keeps nothing between calls, always returns, and reads and writes only what it is
+ * lent. Different data may be used from different threads at once.
+ *
+ * THE RESULT is an int32_t: SCTP_RECEIVE_OK (-1) where nothing was refused, else the number of document 01's refusal, below.
+ * A refusal changes nothing that is lent, but for 7, which leaves what fits of the message in `out`. Out values (the last
+ * parameters, `bool *is`, `size_t *n` and the like) are always written: beside a refusal they are 0 and false, and so
+ * they are where a call answers "not found" (`*found` is false).
+ *
+ * WHAT THE CALLER OWES, and the proofs rest on:
+ *   - a pointer and the length after it belong together: that many elements, aligned, may be read (const) or read and written;
+ *   - an array parameter, uint32_t table[SCTP_RECEIVE_..], points to that many elements;
+ *   - no two things that one call is lent overlap, if the call writes one of them: buffers, tables, and each out value;
+ *   - no null pointer, but where the length after it is 0;
+ *   - a bool holds 0 or 1, as C has it;
+ *   - nothing else writes what is lent while the call runs.
+ *
+ * A QUEUE is its numbers and a table that you lend, all yours to keep where you like. A call that changes the queue takes each
+ * number by reference, one that does not takes it by value. Hand on what a call left, unaltered. Numbers that no call left are
+ * refused with 0 where document 01 can tell, and never make a call read or write outside what it is lent.
+ */
+#ifndef SCTP_RECEIVE_H
+#define SCTP_RECEIVE_H
+
+#include <stdbool.h>
+#include <stddef.h>
+#include <stdint.h>
+
+#ifdef __cplusplus
+extern "C" {
+#endif
+
+/* ---- results ---- */
+
+#define SCTP_RECEIVE_OK (-1)            /* nothing was refused */
+#define SCTP_RECEIVE_UNSOUND 0          /* a queue or message whose numbers contradict its table, pool or buffer */
+#define SCTP_RECEIVE_NO_HEADER 1        /* fewer than 4 bytes lent */
+#define SCTP_RECEIVE_BAD_LENGTH 2       /* chunk length below 4 or above the bytes lent */
+#define SCTP_RECEIVE_OTHER_TYPE 3       /* not the chunk type asked for */
+#define SCTP_RECEIVE_SHORT_DATA 4       /* DATA length below 16 */
+#define SCTP_RECEIVE_SHORT_SACK 5       /* SACK length below 16, or below 16 + 4N + 4X */
+#define SCTP_RECEIVE_TOO_LARGE 6        /* the message would be above the maximum */
+#define SCTP_RECEIVE_SHORT_BUFFER 7     /* whole read: the buffer is too short; what fits was written */
+#define SCTP_RECEIVE_FULL 8             /* no room is left in the table or the pool */
+#define SCTP_RECEIVE_TOO_LONG 9         /* writers: more than a chunk can hold, or lists of unequal length */
+#define SCTP_RECEIVE_NO_ROOM 10         /* write or take buffer, or a gap report list, too short */
+#define SCTP_RECEIVE_PAST_THE_LIST 11   /* list index at or past its count */
+
+/* ---- sizes ---- */
+
+#define SCTP_RECEIVE_TSNS 256           /* TSNs that a TSN queue holds */
+#define SCTP_RECEIVE_TSN_WORDS 1024     /* words of its table */
+#define SCTP_RECEIVE_LOG 64             /* duplicates that it logs */
+#define SCTP_RECEIVE_FRAGMENTS 128      /* fragments that a reassembly queue holds */
+#define SCTP_RECEIVE_FRAGMENT_WORDS 512 /* words of its table */
+#define SCTP_RECEIVE_BYTES 32768        /* payload bytes that it holds: the least length of its pool */
+
+/* ---- payload identifiers: any other number is read as unknown, and written as 58 ---- */
+
+#define SCTP_RECEIVE_DCEP 50
+#define SCTP_RECEIVE_STRING 51
+#define SCTP_RECEIVE_BINARY 53
+#define SCTP_RECEIVE_STRING_EMPTY 56
+#define SCTP_RECEIVE_BINARY_EMPTY 57
+#define SCTP_RECEIVE_UNKNOWN 58
+
+/* ---- numbers that wrap: TSNs of 32 bits, SSNs of 16 ----
+ * Is i1 before, at or before, after, at or after, the same as i2? At a distance of exactly half way neither is before the other. */
+
+bool sctp_receive_sna32lt(uint32_t i1, uint32_t i2);
+bool sctp_receive_sna32lte(uint32_t i1, uint32_t i2);
+bool sctp_receive_sna32gt(uint32_t i1, uint32_t i2);
+bool sctp_receive_sna32gte(uint32_t i1, uint32_t i2);
+bool sctp_receive_sna32eq(uint32_t i1, uint32_t i2);
+bool sctp_receive_sna16lt(uint16_t i1, uint16_t i2);
+bool sctp_receive_sna16lte(uint16_t i1, uint16_t i2);
+bool sctp_receive_sna16gt(uint16_t i1, uint16_t i2);
+bool sctp_receive_sna16gte(uint16_t i1, uint16_t i2);
+bool sctp_receive_sna16eq(uint16_t i1, uint16_t i2);
+
+/* ---- chunks, read and written ----
+ * A reader takes the bytes that a chunk begins; bytes past its length are ignored. A writer writes to the front of `out`, `*n` bytes;
+ * the rest of `out` stays. */
+
+/* Type, flags and length of a chunk. Refuses 1, 2. */
+int32_t sctp_receive_header_unmarshal(const uint8_t *raw, size_t raw_len,
+                                      uint8_t *typ, uint8_t *flags, uint16_t *size);
+
+/* The fields of a DATA chunk. Refuses 1, 2, 3, 4. */
+int32_t sctp_receive_data_unmarshal(const uint8_t *raw, size_t raw_len,
+                                    bool *unordered, bool *beginning_fragment, bool *ending_fragment, bool *immediate_sack,
+                                    uint32_t *tsn, uint16_t *stream_identifier, uint16_t *stream_sequence_number,
+                                    uint32_t *payload_type);
+
+/* Where its user data stands: `*size` bytes from raw + *start on. Refuses 1, 2, 3, 4. */
+int32_t sctp_receive_data_user_data(const uint8_t *raw, size_t raw_len, size_t *start, size_t *size);
+
+/* Writes a DATA chunk. Refuses 9 (more than 65,519 bytes), 10. */
+int32_t sctp_receive_data_marshal_to(uint8_t *out, size_t out_len,
+                                     bool unordered, bool beginning_fragment, bool ending_fragment, bool immediate_sack,
+                                     uint32_t tsn, uint16_t stream_identifier, uint16_t stream_sequence_number,
+                                     uint32_t payload_type,
+                                     const uint8_t *user, size_t user_len, size_t *n);
+
+/* The fields of a SACK chunk, with the counts of its two lists. Refuses 1, 2, 3, 5. */
+int32_t sctp_receive_sack_unmarshal(const uint8_t *raw, size_t raw_len,
+                                    uint32_t *cumulative, uint32_t *window, uint16_t *blocks, uint16_t *duplicates);
+
+/* Where its gap ack blocks, its duplicate TSNs stand: `*size` bytes from raw + *start on. Refuse 1, 2, 3, 5. */
+int32_t sctp_receive_sack_gap_ack_blocks(const uint8_t *raw, size_t raw_len, size_t *start, size_t *size);
+int32_t sctp_receive_sack_duplicate_tsns(const uint8_t *raw, size_t raw_len, size_t *start, size_t *size);
+
+/* The gap ack block, the duplicate TSN at an index of such a part. Refuse 11. */
+int32_t sctp_receive_sack_gap_ack_block_at(const uint8_t *part, size_t part_len, size_t i, uint16_t *start, uint16_t *end);
+int32_t sctp_receive_sack_duplicate_tsn_at(const uint8_t *part, size_t part_len, size_t i, uint32_t *tsn);
+
+/* Writes a SACK chunk. Refuses 9 (more than 16,379 entries, or lists of unequal length), 10. */
+int32_t sctp_receive_sack_marshal_to(uint8_t *out, size_t out_len, uint32_t cumulative, uint32_t window,
+                                     const uint16_t *starts, size_t starts_len, const uint16_t *ends, size_t ends_len,
+                                     const uint32_t *duplicates, size_t duplicates_len, size_t *n);
+
+/* ---- the TSN queue: which TSNs came, in which order they stand, and which came twice ----
+ * Its numbers: TSNs held, the sum of their data lengths, logged duplicates; the log; the table. Every call refuses 0. */
+
+/* A fresh queue. The table may hold anything. */
+void sctp_receive_payload_queue_new(size_t *count, size_t *n_bytes, size_t *dups, uint32_t dup_tsn[SCTP_RECEIVE_LOG]);
+
+/* Is the TSN neither held nor at or before the cumulative one? */
+int32_t sctp_receive_payload_queue_can_push(size_t count, size_t n_bytes, size_t dups,
+                                            const uint32_t dup_tsn[SCTP_RECEIVE_LOG],
+                                            const uint32_t table[SCTP_RECEIVE_TSN_WORDS],
+                                            uint32_t tsn, uint32_t cumulative, bool *is);
+
+/* Stores a chunk of `size` data bytes by its TSN: true. Held, or at or before the cumulative TSN: false, and logged where the log
+ * has room. Refuses 8 where 256 are held. */
+int32_t sctp_receive_payload_queue_push(size_t *count, size_t *n_bytes, size_t *dups, uint32_t dup_tsn[SCTP_RECEIVE_LOG],
+                                        uint32_t table[SCTP_RECEIVE_TSN_WORDS],
+                                        bool unordered, bool beginning_fragment, bool ending_fragment, bool immediate_sack,
+                                        uint32_t tsn, uint16_t stream_identifier, uint16_t stream_sequence_number,
+                                        uint32_t payload_type, uint16_t size, uint32_t cumulative, bool *is);
+
+/* Removes and gives the first chunk, if its TSN is `wanted`; else nothing is found, and nothing changes. */
+int32_t sctp_receive_payload_queue_pop(size_t *count, size_t *n_bytes, size_t *dups, uint32_t dup_tsn[SCTP_RECEIVE_LOG],
+                                       uint32_t table[SCTP_RECEIVE_TSN_WORDS], uint32_t wanted, bool *found,
+                                       bool *unordered, bool *beginning_fragment, bool *ending_fragment, bool *immediate_sack,
+                                       uint32_t *tsn, uint16_t *stream_identifier, uint16_t *stream_sequence_number,
+                                       uint32_t *payload_type, uint16_t *size);
+
+/* Drops every TSN at or before this one. */
+int32_t sctp_receive_payload_queue_pop_up_to(size_t *count, size_t *n_bytes, size_t *dups, uint32_t dup_tsn[SCTP_RECEIVE_LOG],
+                                             uint32_t table[SCTP_RECEIVE_TSN_WORDS], uint32_t tsn);
+
+/* Hands out the log: all 64 places, unused ones 0, and how many are used; and empties it. */
+int32_t sctp_receive_payload_queue_pop_duplicates(size_t *count, size_t *n_bytes, size_t *dups,
+                                                  uint32_t dup_tsn[SCTP_RECEIVE_LOG],
+                                                  const uint32_t table[SCTP_RECEIVE_TSN_WORDS],
+                                                  size_t *n, uint32_t tsns[SCTP_RECEIVE_LOG]);
+
+/* The chunk that is held with this TSN, if there is one. */
+int32_t sctp_receive_payload_queue_get(size_t count, size_t n_bytes, size_t dups, const uint32_t dup_tsn[SCTP_RECEIVE_LOG],
+                                       const uint32_t table[SCTP_RECEIVE_TSN_WORDS], uint32_t wanted, bool *found,
+                                       bool *unordered, bool *beginning_fragment, bool *ending_fragment, bool *immediate_sack,
+                                       uint32_t *tsn, uint16_t *stream_identifier, uint16_t *stream_sequence_number,
+                                       uint32_t *payload_type, uint16_t *size);
+
+/* The gap report: starts and ends of its blocks, as offsets from the cumulative TSN, go to the front of the lists; `*n` is their
+ * count. Lists of 256 places always do. Refuses 10. */
+int32_t sctp_receive_payload_queue_get_gap_ack_blocks(size_t count, size_t n_bytes, size_t dups,
+                                                      const uint32_t dup_tsn[SCTP_RECEIVE_LOG],
+                                                      const uint32_t table[SCTP_RECEIVE_TSN_WORDS], uint32_t cumulative,
+                                                      uint16_t *starts, size_t starts_len, uint16_t *ends, size_t ends_len,
+                                                      size_t *n);
+
+/* The TSN that stands last, if there is one. */
+int32_t sctp_receive_payload_queue_get_last_tsn_received(size_t count, size_t n_bytes, size_t dups,
+                                                         const uint32_t dup_tsn[SCTP_RECEIVE_LOG],
+                                                         const uint32_t table[SCTP_RECEIVE_TSN_WORDS],
+                                                         bool *found, uint32_t *tsn);
+
+/* The sum of the held data lengths; how many TSNs are held; whether none is; whether a chunk of a stream is. */
+int32_t sctp_receive_payload_queue_get_num_bytes(size_t count, size_t n_bytes, size_t dups,
+                                                 const uint32_t dup_tsn[SCTP_RECEIVE_LOG],
+                                                 const uint32_t table[SCTP_RECEIVE_TSN_WORDS], size_t *n);
+int32_t sctp_receive_payload_queue_len(size_t count, size_t n_bytes, size_t dups, const uint32_t dup_tsn[SCTP_RECEIVE_LOG],
+                                       const uint32_t table[SCTP_RECEIVE_TSN_WORDS], size_t *n);
+int32_t sctp_receive_payload_queue_is_empty(size_t count, size_t n_bytes, size_t dups, const uint32_t dup_tsn[SCTP_RECEIVE_LOG],
+                                            const uint32_t table[SCTP_RECEIVE_TSN_WORDS], bool *is);
+int32_t sctp_receive_payload_queue_contains_stream(size_t count, size_t n_bytes, size_t dups,
+                                                   const uint32_t dup_tsn[SCTP_RECEIVE_LOG],
+                                                   const uint32_t table[SCTP_RECEIVE_TSN_WORDS], uint16_t stream, bool *is);
+
+/* ---- reassembly of one stream ----
+ * Its numbers: the stream, the expected SSN, the maximum message size; fragments of finished unordered messages, loose unordered
+ * fragments, fragments of ordered sets; the bytes held. Then the table and the pool. Every call refuses 0. */
+
+/* A fresh queue of a stream, with this maximum message size. The table and the pool may hold anything. */
+void sctp_receive_reassembly_queue_new(uint16_t stream, uint32_t most,
+                                       uint16_t *si, uint16_t *next_ssn, uint32_t *max_message_size,
+                                       size_t *finished, size_t *unordered, size_t *ordered, size_t *n_bytes);
+
+/* Stores a chunk with its user data: true where that completes a message. False where it is of another stream, its SSN is before the
+ * expected one, or its TSN is there already. Refuses 6, 8. */
+int32_t sctp_receive_reassembly_queue_push(uint16_t *si, uint16_t *next_ssn, uint32_t *max_message_size,
+                                           size_t *finished, size_t *unordered, size_t *ordered, size_t *n_bytes,
+                                           uint32_t table[SCTP_RECEIVE_FRAGMENT_WORDS], uint8_t *pool, size_t pool_len,
+                                           bool is_unordered, bool beginning_fragment, bool ending_fragment, bool immediate_sack,
+                                           uint32_t tsn, uint16_t stream_identifier, uint16_t stream_sequence_number,
+                                           uint32_t payload_type, const uint8_t *user_data, size_t user_data_len, bool *is);
+
+/* Can a message be taken? */
+int32_t sctp_receive_reassembly_queue_is_readable(uint16_t si, uint16_t next_ssn, uint32_t max_message_size,
+                                                  size_t finished, size_t unordered, size_t ordered, size_t n_bytes,
+                                                  const uint32_t table[SCTP_RECEIVE_FRAGMENT_WORDS],
+                                                  const uint8_t *pool, size_t pool_len, bool *is);
+
+/* Takes the oldest finished unordered message, else the first ordered set if it is complete and not after the expected one, to the
+ * front of `buffer`: SSN (0 where unordered), payload identifier, and the message in hand: its size, position 0, given false.
+ * Nothing to take: not found, whatever the buffer. Refuses 10, and the message stays. */
+int32_t sctp_receive_reassembly_queue_read(uint16_t *si, uint16_t *next_ssn, uint32_t *max_message_size,
+                                           size_t *finished, size_t *unordered, size_t *ordered, size_t *n_bytes,
+                                           uint32_t table[SCTP_RECEIVE_FRAGMENT_WORDS], uint8_t *pool, size_t pool_len,
+                                           uint8_t *buffer, size_t buffer_len, bool *found,
+                                           uint16_t *ssn, uint32_t *ppi, size_t *bytes, size_t *position, bool *given);
+
+/* Skips: drops incomplete ordered sets at or before an SSN, and expects the one after it; drops loose unordered fragments from the
+ * front up to the first one after a TSN. */
+int32_t sctp_receive_reassembly_queue_forward_tsn_for_ordered(uint16_t *si, uint16_t *next_ssn, uint32_t *max_message_size,
+                                                              size_t *finished, size_t *unordered, size_t *ordered,
+                                                              size_t *n_bytes, uint32_t table[SCTP_RECEIVE_FRAGMENT_WORDS],
+                                                              uint8_t *pool, size_t pool_len, uint16_t last_ssn);
+int32_t sctp_receive_reassembly_queue_forward_tsn_for_unordered(uint16_t *si, uint16_t *next_ssn, uint32_t *max_message_size,
+                                                                size_t *finished, size_t *unordered, size_t *ordered,
+                                                                size_t *n_bytes, uint32_t table[SCTP_RECEIVE_FRAGMENT_WORDS],
+                                                                uint8_t *pool, size_t pool_len, uint32_t new_cumulative_tsn);
+
+/* The number of bytes held. */
+int32_t sctp_receive_reassembly_queue_get_num_bytes(uint16_t si, uint16_t next_ssn, uint32_t max_message_size,
+                                                    size_t finished, size_t unordered, size_t ordered, size_t n_bytes,
+                                                    const uint32_t table[SCTP_RECEIVE_FRAGMENT_WORDS],
+                                                    const uint8_t *pool, size_t pool_len, size_t *n);
+
+/* ---- the message in hand ----
+ * Its bytes stand at the front of the buffer that it was taken into. Its numbers: how many they are, the place of the next piece, and
+ * whether an empty message's one piece was given. Every call refuses 0. */
+
+/* How many bytes the message has; whether it has none. */
+int32_t sctp_receive_chunks_len(size_t bytes, size_t position, bool given, const uint8_t *buffer, size_t buffer_len, size_t *n);
+int32_t sctp_receive_chunks_is_empty(size_t bytes, size_t position, bool given, const uint8_t *buffer, size_t buffer_len, bool *is);
+
+/* Copies the whole message to the front of `out`; moves nothing. Refuses 7 where `out` is too short, and leaves what fits in it. */
+int32_t sctp_receive_chunks_read(size_t bytes, size_t position, bool given, const uint8_t *buffer, size_t buffer_len,
+                                 uint8_t *out, size_t out_len, size_t *n);
+
+/* The next piece, of at most `most` bytes, if one comes: `*piece_size` bytes from buffer + *piece_start on. */
+int32_t sctp_receive_chunks_next(size_t *bytes, size_t *position, bool *given, const uint8_t *buffer, size_t buffer_len,
+                                 size_t most, bool *found, size_t *piece_start, size_t *piece_size);
+
+#ifdef __cplusplus
+}
+#endif
+
+#endif
