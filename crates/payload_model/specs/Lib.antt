@@ -3,3 +3,4 @@ pub mod Queue
 pub mod Answers
 pub mod GapCall
 pub mod Run
+pub mod Log

@@ -4,11 +4,9 @@ ghost use lib.ListN.{length};
 ghost use Rattle.wire.specs.Refusal.{written};
 ghost use Rattle.chunk.specs.Header.{HeaderFront};
 ghost use Rattle.chunk_payload_data.specs.Data.{DataFront, dataRead, dataWritten};
-ghost use Rattle.sctp_receive.specs.Result.{told};
-ghost use Rattle.sctp_receive.specs.Fields.{chunkFrom, valuesFrom};
-ghost use Rattle.sctp_receive.specs.Places.{span, userSpan};
-use crate::answers;
-use chunk::chunk_header;
+ghost use Rattle.sctp_receive_model.specs.Result.{told};
+ghost use Rattle.sctp_receive_model.specs.Fields.{chunkFrom, valuesFrom};
+ghost use Rattle.sctp_receive_model.specs.Places.{span, userSpan};
 use chunk_payload_data::ChunkPayloadData;
 use chunk_payload_data::PayloadProtocolIdentifier;
 use chunk_payload_data::Unmarshalled;
@@ -63,19 +61,7 @@ pub extern "C" fn sctp_receive_data_user_data(
 ) -> i32
     ensures { λ r. ⌜ ((f : HeaderFront (now (raw .entry))) → told r (span (now (start .exit)) (now (size .exit))) ≡ userSpan (length (now (raw .entry))) (f .fields)) ⌝ }
 {
-    let answer = chunk_header::unmarshal_as(raw, 0, 16, 4);
-    match answer {
-        chunk_header::Unmarshalled::Header(h) => {
-            *start = 16;
-            *size = h.length as usize - 16;
-            -1
-        }
-        chunk_header::Unmarshalled::Refused(k) => {
-            *start = 0;
-            *size = 0;
-            k as i32
-        }
-    }
+    sctp_receive_codecs::user_data(raw, start, size)
 }
 
 // The DATA chunk of these fields and this user data, written to the front of the lent buffer; n is its byte count; 9 and 10.
@@ -107,5 +93,5 @@ pub extern "C" fn sctp_receive_data_marshal_to(
         payload_type: name,
     };
     let answer = chunk_payload_data::marshal_to(out, fields, user);
-    answers::marshalled(answer, n)
+    sctp_receive_codecs::marshalled(answer, n)
 }

@@ -4,36 +4,13 @@
 ghost use mathlib.Core.Path.{_≡_};
 ghost use Rattle.reassembly_state.specs.State.{after, pushed, isReadable, reads, read, forwardOrdered, forwardUnordered, numBytes};
 ghost use Rattle.reassembly_queue.specs.Queue.{fresh};
-ghost use Rattle.sctp_receive.specs.Result.{told, done};
-ghost use Rattle.sctp_receive.specs.Fields.{chunkFrom};
-ghost use Rattle.sctp_receive.specs.States.{fragmentCounts, stateFrom, messageFrom};
-use crate::answers;
+ghost use Rattle.sctp_receive_model.specs.Result.{told, done};
+ghost use Rattle.sctp_receive_model.specs.Fields.{chunkFrom};
+ghost use Rattle.sctp_receive_model.specs.States.{fragmentCounts, stateFrom, messageFrom};
 use chunk_payload_data::ChunkPayloadData;
 use chunk_payload_data::PayloadProtocolIdentifier;
 use reassembly_queue::ReassemblyQueue;
 use reassembly_queue::WORDS;
-
-// The queue, put back into the fields that C keeps.
-fn put(
-    queue: ReassemblyQueue,
-    si: &mut u16,
-    next_ssn: &mut u16,
-    max_message_size: &mut u32,
-    finished: &mut usize,
-    unordered: &mut usize,
-    ordered: &mut usize,
-    n_bytes: &mut usize,
-)
-    ensures { λ _. ⌜ fragmentCounts (now (si .exit)) (now («next_ssn» .exit)) (now («max_message_size» .exit)) (now (finished .exit)) (now (unordered .exit)) (now (ordered .exit)) (now («n_bytes» .exit)) ≡ queue ⌝ }
-{
-    *si = queue.si;
-    *next_ssn = queue.next_ssn;
-    *max_message_size = queue.max_message_size;
-    *finished = queue.finished;
-    *unordered = queue.unordered;
-    *ordered = queue.ordered;
-    *n_bytes = queue.n_bytes;
-}
 
 // A fresh queue of a stream; the table and the pool may hold anything.
 #[no_mangle]
@@ -51,7 +28,7 @@ pub extern "C" fn sctp_receive_reassembly_queue_new(
     ensures { λ _. ⌜ fragmentCounts (now (si .exit)) (now («next_ssn» .exit)) (now («max_message_size» .exit)) (now (finished .exit)) (now (unordered .exit)) (now (ordered .exit)) (now («n_bytes» .exit)) ≡ fresh stream most ⌝ }
 {
     let left = ReassemblyQueue::new(stream, most);
-    put(
+    sctp_receive_fragments::put(
         left,
         si,
         next_ssn,
@@ -111,7 +88,7 @@ pub extern "C" fn sctp_receive_reassembly_queue_push(
     };
     let pushed = queue.push(table, pool, chunk, user_data);
     let left = pushed.queue;
-    put(
+    sctp_receive_fragments::put(
         left,
         si,
         next_ssn,
@@ -122,7 +99,7 @@ pub extern "C" fn sctp_receive_reassembly_queue_push(
         n_bytes,
     );
     let answer = pushed.answer;
-    answers::flag(answer, is)
+    sctp_receive_fragments::flag(answer, is)
 }
 
 // Whether a message can be taken.
@@ -151,7 +128,7 @@ pub extern "C" fn sctp_receive_reassembly_queue_is_readable(
         n_bytes,
     };
     let answer = queue.is_readable(table, pool);
-    answers::flag(answer, is)
+    sctp_receive_fragments::flag(answer, is)
 }
 
 // Takes the oldest finished unordered message, else the first ordered set if it is complete and not after the expected one, to the front
@@ -188,7 +165,7 @@ pub extern "C" fn sctp_receive_reassembly_queue_read(
     };
     let taken = queue.read(table, pool, buffer);
     let left = taken.queue;
-    put(
+    sctp_receive_fragments::put(
         left,
         si,
         next_ssn,
@@ -199,7 +176,7 @@ pub extern "C" fn sctp_receive_reassembly_queue_read(
         n_bytes,
     );
     let answer = taken.answer;
-    answers::taken(answer, found, ssn, ppi, bytes, position, given)
+    sctp_receive_fragments::taken(answer, found, ssn, ppi, bytes, position, given)
 }
 
 // Drops incomplete sets at or before an SSN, and expects the one after it.
@@ -229,7 +206,7 @@ pub extern "C" fn sctp_receive_reassembly_queue_forward_tsn_for_ordered(
     };
     let forwarded = queue.forward_tsn_for_ordered(table, pool, last_ssn);
     let left = forwarded.queue;
-    put(
+    sctp_receive_fragments::put(
         left,
         si,
         next_ssn,
@@ -240,7 +217,7 @@ pub extern "C" fn sctp_receive_reassembly_queue_forward_tsn_for_ordered(
         n_bytes,
     );
     let answer = forwarded.answer;
-    answers::forwarded(answer)
+    sctp_receive_fragments::forwarded(answer)
 }
 
 // Drops loose unordered fragments from the front up to the first one after a TSN.
@@ -270,7 +247,7 @@ pub extern "C" fn sctp_receive_reassembly_queue_forward_tsn_for_unordered(
     };
     let forwarded = queue.forward_tsn_for_unordered(table, pool, new_cumulative_tsn);
     let left = forwarded.queue;
-    put(
+    sctp_receive_fragments::put(
         left,
         si,
         next_ssn,
@@ -281,7 +258,7 @@ pub extern "C" fn sctp_receive_reassembly_queue_forward_tsn_for_unordered(
         n_bytes,
     );
     let answer = forwarded.answer;
-    answers::forwarded(answer)
+    sctp_receive_fragments::forwarded(answer)
 }
 
 // The number of bytes held.
@@ -310,5 +287,5 @@ pub extern "C" fn sctp_receive_reassembly_queue_get_num_bytes(
         n_bytes,
     };
     let answer = queue.get_num_bytes(table, pool);
-    answers::number(answer, n)
+    sctp_receive_fragments::number(answer, n)
 }

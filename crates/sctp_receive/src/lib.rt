@@ -1,13 +1,11 @@
 // The C interface of the library: every public call of the codecs, the TSN queue, reassembly and the message in hand, as #[no_mangle] pub extern "C".
 // Numbers, slices (a pointer and a length) and arrays (a pointer) only, so that include/sctp_receive.h holds on every processor. The result is -1 where
 // nothing was refused, else document 01's number. Each promise equates result and exit values with the definitions that the call below it is promised by.
-mod answers;
 pub mod data_chunk;
 pub mod fragment_calls;
 pub mod header;
 pub mod message;
 pub mod order;
 pub mod sack_chunk;
-mod tsn_answers;
 pub mod tsns;
 pub mod tsns_seen;

@@ -3,24 +3,8 @@
 ghost use mathlib.Core.Path.{_≡_};
 ghost use Rattle.wire.specs.Refusal.{written};
 ghost use Rattle.chunks.specs.Message.{size, isEmpty, wholeRead, after, nextPiece};
-ghost use Rattle.sctp_receive.specs.Result.{told};
-ghost use Rattle.sctp_receive.specs.States.{handFrom, pieceFrom};
-use crate::answers;
-use chunk_payload_data::PayloadProtocolIdentifier;
-use chunks::Chunks;
-
-// The message of these fields. Its SSN and its identifier play no part in its calls.
-fn hand(bytes: usize, position: usize, given: bool) -> Chunks
-    ensures { λ r. ⌜ r ≡ handFrom bytes position given ⌝ }
-{
-    Chunks {
-        ssn: 0,
-        ppi: PayloadProtocolIdentifier::Unknown,
-        size: bytes,
-        position,
-        given,
-    }
-}
+ghost use Rattle.sctp_receive_model.specs.Result.{told};
+ghost use Rattle.sctp_receive_model.specs.States.{handFrom, pieceFrom};
 
 // How many bytes the message has.
 #[no_mangle]
@@ -33,9 +17,9 @@ pub extern "C" fn sctp_receive_chunks_len(
 ) -> i32
     ensures { λ r. ⌜ told r (now (n .exit)) ≡ size (handFrom bytes position given) (now (buffer .entry)) ⌝ }
 {
-    let message = hand(bytes, position, given);
+    let message = sctp_receive_fragments::hand(bytes, position, given);
     let answer = message.len(buffer);
-    answers::number(answer, n)
+    sctp_receive_fragments::number(answer, n)
 }
 
 // Whether it has none.
@@ -49,9 +33,9 @@ pub extern "C" fn sctp_receive_chunks_is_empty(
 ) -> i32
     ensures { λ r. ⌜ told r (now (is .exit)) ≡ isEmpty (handFrom bytes position given) (now (buffer .entry)) ⌝ }
 {
-    let message = hand(bytes, position, given);
+    let message = sctp_receive_fragments::hand(bytes, position, given);
     let answer = message.is_empty(buffer);
-    answers::flag(answer, is)
+    sctp_receive_fragments::flag(answer, is)
 }
 
 // The whole message, copied to the front of a lent buffer; where that is too short, what fits of it, and 7.
@@ -66,9 +50,9 @@ pub extern "C" fn sctp_receive_chunks_read(
 ) -> i32
     ensures { λ r. ⌜ written (told r (now (n .exit))) (now (out .exit)) ≡ wholeRead (handFrom bytes position given) (now (buffer .entry)) (now (out .entry)) ⌝ }
 {
-    let message = hand(bytes, position, given);
+    let message = sctp_receive_fragments::hand(bytes, position, given);
     let answer = message.read(buffer, out);
-    answers::number(answer, n)
+    sctp_receive_fragments::number(answer, n)
 }
 
 // The place of the next piece, of at most so many bytes, if one comes.
@@ -85,12 +69,10 @@ pub extern "C" fn sctp_receive_chunks_next(
 ) -> i32
     ensures { λ r. ⌜ after (told r (pieceFrom (now (found .exit)) (now («piece_start» .exit)) (now («piece_size» .exit)))) (handFrom (now (bytes .exit)) (now (position .exit)) (now (given .exit))) ≡ nextPiece (handFrom (now (bytes .entry)) (now (position .entry)) (now (given .entry))) (now (buffer .entry)) most ⌝ }
 {
-    let message = hand(*bytes, *position, *given);
+    let message = sctp_receive_fragments::hand(*bytes, *position, *given);
     let next = message.next(buffer, most);
     let left = next.message;
-    *bytes = left.size;
-    *position = left.position;
-    *given = left.given;
+    sctp_receive_fragments::put_hand(left, bytes, position, given);
     let answer = next.answer;
-    answers::piece(answer, found, piece_start, piece_size)
+    sctp_receive_fragments::piece(answer, found, piece_start, piece_size)
 }

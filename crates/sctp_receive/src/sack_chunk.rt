@@ -4,9 +4,8 @@ ghost use lib.ListN.{length};
 ghost use Rattle.wire.specs.Refusal.{written};
 ghost use Rattle.chunk_selective_ack.specs.Layout.{sack, block};
 ghost use Rattle.chunk_selective_ack.specs.Sack.{SackFront, sackRead, BlockFront, blockRead, TsnFront, tsnRead, sackWritten};
-ghost use Rattle.sctp_receive.specs.Result.{told};
-ghost use Rattle.sctp_receive.specs.Places.{span, blocksSpan, duplicatesSpan};
-use crate::answers;
+ghost use Rattle.sctp_receive_model.specs.Result.{told};
+ghost use Rattle.sctp_receive_model.specs.Places.{span, blocksSpan, duplicatesSpan};
 use chunk_selective_ack::DuplicateTsnAt;
 use chunk_selective_ack::GapAckBlockAt;
 use chunk_selective_ack::Unmarshalled;
@@ -144,5 +143,5 @@ pub extern "C" fn sctp_receive_sack_marshal_to(
     ensures { λ r. ⌜ written (told r (now (n .exit))) (now (out .exit)) ≡ sackWritten cumulative window (now (starts .entry)) (now (ends .entry)) (now (duplicates .entry)) (now (out .entry)) ⌝ }
 {
     let answer = chunk_selective_ack::marshal_to(out, cumulative, window, starts, ends, duplicates);
-    answers::marshalled(answer, n)
+    sctp_receive_codecs::marshalled(answer, n)
 }

@@ -3,33 +3,15 @@
 ghost use mathlib.Core.Path.{_≡_};
 ghost use Rattle.payload_model.specs.Queue.{after, rowOf, pushed, canPush, popped, poppedUpTo, poppedDuplicates};
 ghost use Rattle.payload_queue.specs.Queue.{fresh};
-ghost use Rattle.sctp_receive.specs.Result.{told, done};
-ghost use Rattle.sctp_receive.specs.Fields.{chunkFrom, valuesFrom, foundFrom};
-ghost use Rattle.sctp_receive.specs.States.{tsnCounts, tsnsFrom, handedFrom};
-use crate::tsn_answers;
+ghost use Rattle.sctp_receive_model.specs.Result.{told, done};
+ghost use Rattle.sctp_receive_model.specs.Fields.{chunkFrom, valuesFrom, foundFrom};
+ghost use Rattle.sctp_receive_model.specs.States.{tsnCounts, tsnsFrom, handedFrom};
 use chunk_payload_data::ChunkPayloadData;
 use chunk_payload_data::PayloadProtocolIdentifier;
 use payload_queue::Done;
 use payload_queue::LOG;
 use payload_queue::PayloadQueue;
 use payload_queue::WORDS;
-
-// The queue, put back into the fields that C keeps.
-fn put(
-    queue: PayloadQueue,
-    count: &mut usize,
-    n_bytes: &mut usize,
-    dups: &mut usize,
-    dup_tsn: &mut [u32; LOG],
-)
-    ensures { λ _. ⌜ tsnCounts (now (count .exit)) (now («n_bytes» .exit)) (now (dups .exit)) (now («dup_tsn» .exit)) ≡ queue ⌝ }
-{
-    *count = queue.count;
-    *n_bytes = queue.n_bytes;
-    *dups = queue.dups;
-    let log = queue.dup_tsn;
-    *dup_tsn = log;
-}
 
 // A fresh queue; the table may hold anything.
 #[no_mangle]
@@ -42,7 +24,7 @@ pub extern "C" fn sctp_receive_payload_queue_new(
     ensures { λ _. ⌜ tsnCounts (now (count .exit)) (now («n_bytes» .exit)) (now (dups .exit)) (now («dup_tsn» .exit)) ≡ fresh ⌝ }
 {
     let queue = PayloadQueue::new();
-    put(queue, count, n_bytes, dups, dup_tsn);
+    sctp_receive_tsns::put(queue, count, n_bytes, dups, dup_tsn);
 }
 
 // Whether the TSN is neither held nor at or before the cumulative one.
@@ -59,14 +41,9 @@ pub extern "C" fn sctp_receive_payload_queue_can_push(
 ) -> i32
     ensures { λ r. ⌜ told r (now (is .exit)) ≡ canPush (tsnsFrom count «n_bytes» dups (now («dup_tsn» .entry)) (now (table .entry))) tsn cumulative ⌝ }
 {
-    let queue = PayloadQueue {
-        count,
-        n_bytes,
-        dups,
-        dup_tsn: *dup_tsn,
-    };
+    let queue = sctp_receive_tsns::of_counts(count, n_bytes, dups);
     let answer = queue.can_push(table, tsn, cumulative);
-    tsn_answers::flag(answer, is)
+    sctp_receive_tsns::flag(answer, is)
 }
 
 // Stores the chunk by its TSN: true; or logs its TSN where it is held or old: false; 8 where no room is left.
@@ -91,12 +68,6 @@ pub extern "C" fn sctp_receive_payload_queue_push(
 ) -> i32
     ensures { λ r. ⌜ after (told r (now (is .exit))) (tsnsFrom (now (count .exit)) (now («n_bytes» .exit)) (now (dups .exit)) (now («dup_tsn» .exit)) (now (table .exit))) ≡ pushed (tsnsFrom (now (count .entry)) (now («n_bytes» .entry)) (now (dups .entry)) (now («dup_tsn» .entry)) (now (table .entry))) (rowOf (chunkFrom unordered «beginning_fragment» «ending_fragment» «immediate_sack» tsn «stream_identifier» «stream_sequence_number» «payload_type») size) cumulative ⌝ }
 {
-    let queue = PayloadQueue {
-        count: *count,
-        n_bytes: *n_bytes,
-        dups: *dups,
-        dup_tsn: *dup_tsn,
-    };
     let name = PayloadProtocolIdentifier::from_u32(payload_type);
     let chunk = ChunkPayloadData {
         unordered,
@@ -108,11 +79,17 @@ pub extern "C" fn sctp_receive_payload_queue_push(
         stream_sequence_number,
         payload_type: name,
     };
-    let pushed = queue.push(table, chunk, size, cumulative);
-    let left = pushed.queue;
-    put(left, count, n_bytes, dups, dup_tsn);
-    let answer = pushed.answer;
-    tsn_answers::flag(answer, is)
+    sctp_receive_tsns::push(
+        count,
+        n_bytes,
+        dups,
+        dup_tsn,
+        table,
+        chunk,
+        size,
+        cumulative,
+        is,
+    )
 }
 
 // Removes and gives the first chunk, if its TSN is this one; else nothing is found, and nothing changes.
@@ -137,17 +114,12 @@ pub extern "C" fn sctp_receive_payload_queue_pop(
 ) -> i32
     ensures { λ r. ⌜ after (told r (foundFrom (now (found .exit)) (valuesFrom (now (unordered .exit)) (now («beginning_fragment» .exit)) (now («ending_fragment» .exit)) (now («immediate_sack» .exit)) (now (tsn .exit)) (now («stream_identifier» .exit)) (now («stream_sequence_number» .exit)) (now («payload_type» .exit))) (now (size .exit)))) (tsnsFrom (now (count .exit)) (now («n_bytes» .exit)) (now (dups .exit)) (now («dup_tsn» .exit)) (now (table .exit))) ≡ popped (tsnsFrom (now (count .entry)) (now («n_bytes» .entry)) (now (dups .entry)) (now («dup_tsn» .entry)) (now (table .entry))) wanted ⌝ }
 {
-    let queue = PayloadQueue {
-        count: *count,
-        n_bytes: *n_bytes,
-        dups: *dups,
-        dup_tsn: *dup_tsn,
-    };
+    let queue = sctp_receive_tsns::of_counts(*count, *n_bytes, *dups);
     let popped = queue.pop(table, wanted);
     let left = popped.queue;
-    put(left, count, n_bytes, dups, dup_tsn);
+    sctp_receive_tsns::put_counts(left, count, n_bytes, dups);
     let answer = popped.answer;
-    tsn_answers::taken(
+    sctp_receive_tsns::taken(
         answer,
         found,
         unordered,
@@ -174,15 +146,10 @@ pub extern "C" fn sctp_receive_payload_queue_pop_up_to(
 ) -> i32
     ensures { λ r. ⌜ after (done r) (tsnsFrom (now (count .exit)) (now («n_bytes» .exit)) (now (dups .exit)) (now («dup_tsn» .exit)) (now (table .exit))) ≡ poppedUpTo (tsnsFrom (now (count .entry)) (now («n_bytes» .entry)) (now (dups .entry)) (now («dup_tsn» .entry)) (now (table .entry))) tsn ⌝ }
 {
-    let queue = PayloadQueue {
-        count: *count,
-        n_bytes: *n_bytes,
-        dups: *dups,
-        dup_tsn: *dup_tsn,
-    };
+    let queue = sctp_receive_tsns::of_counts(*count, *n_bytes, *dups);
     let dropped = queue.pop_up_to(table, tsn);
     let left = dropped.queue;
-    put(left, count, n_bytes, dups, dup_tsn);
+    sctp_receive_tsns::put_counts(left, count, n_bytes, dups);
     let answer = dropped.answer;
     match answer {
         Done::All => -1,
@@ -211,9 +178,9 @@ pub extern "C" fn sctp_receive_payload_queue_pop_duplicates(
     };
     let handed = queue.pop_duplicates(table);
     let left = handed.queue;
-    put(left, count, n_bytes, dups, dup_tsn);
+    sctp_receive_tsns::put(left, count, n_bytes, dups, dup_tsn);
     let places = handed.tsns;
     *tsns = places;
     let answer = handed.answer;
-    tsn_answers::number(answer, n)
+    sctp_receive_tsns::number(answer, n)
 }

@@ -1,16 +1,14 @@
--- `sctp_receive_payload_queue_push` answers and leaves what the call below it does.
+-- `sctp_receive_payload_queue_push` answers and leaves what `push` does with the chunk of these fields.
 -- Assumes nothing.
-use mathlib.Core.Path.{_∙_}
 use borrow.Author.Needs.{needs}
-use Rattle.sctp_receive.proofs.Codes.{tsns-left}
+use mir.Syntax.{w32}
+use mir.Facts.{toZ-ofZ}
 use Rattle.sctp_receive.proofs.tsns.sctp_receive_payload_queue_push.Statement.{statement}
 use Rattle.sctp_receive.proofs.tsns.sctp_receive_payload_queue_push.Tie as tie
 
 same : tie.Need-returns
 same c =
-    rw (← (c .before .before .before .before .before .before .before .before .before .before .from-u32 .ensures)) (tsns-left _ (c .flag .ensures) (c .before .before .put .ensures) ∙ c .before .before .before .before .before .before .before .before .push .ensures)
+    rw (toZ-ofZ {w = w32} {z = c .push .result} (record { sfits = c .push .ok }), ← (c .before .before .before .before .before .before .before .from-u32 .ensures)) (c .push .ensures)
 
 pub sctp-receive-payload-queue-push-spec : {M : Type 1} → statement M
-sctp-receive-payload-queue-push-spec =
-    tie.close
-    (tie.spec (λ c κs. search needs) (λ c κs. search needs) (λ c κs. search needs) (λ c κs. search needs) same)
+sctp-receive-payload-queue-push-spec = tie.close (tie.spec (λ c κs. search needs) (λ c κs. search needs) same)

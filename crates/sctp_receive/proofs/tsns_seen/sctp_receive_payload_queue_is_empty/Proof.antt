@@ -2,11 +2,15 @@
 -- Assumes nothing.
 use mathlib.Core.Path.{_∙_}
 use borrow.Author.Needs.{needs}
+use Rattle.payload_model.specs.Queue.{isEmpty, unsound}
 use Rattle.sctp_receive.proofs.tsns_seen.sctp_receive_payload_queue_is_empty.Statement.{statement}
 use Rattle.sctp_receive.proofs.tsns_seen.sctp_receive_payload_queue_is_empty.Tie as tie
 
 same : tie.Need-returns
-same c = c .flag .ensures ∙ c .before .before .is-empty .ensures
+unfolding isEmpty unsound
+same c =
+    let call = c .before .before in
+    c .flag .ensures ∙ (rw (call .before .of-counts .ensures) at (call .is-empty .ensures))
 
 pub sctp-receive-payload-queue-is-empty-spec : {M : Type 1} → statement M
-sctp-receive-payload-queue-is-empty-spec = tie.close (tie.spec (λ c κs. search needs) (λ c κs. search needs) same)
+sctp-receive-payload-queue-is-empty-spec = tie.close (tie.spec (λ c κs. search needs) (λ c κs. search needs) (λ c κs. search needs) same)
