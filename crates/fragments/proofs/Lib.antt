@@ -5,3 +5,4 @@ pub mod Seen
 pub mod Run
 pub mod Reach
 pub mod Scan
+pub mod Together

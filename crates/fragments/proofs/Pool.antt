@@ -297,6 +297,13 @@ lay-view n rows pool h = (rw (cut-rows (take n rows) pool h) (over-own n rows), 
 
 -- ── one edit, as rows and as bytes ──
 
+-- the last k of n gone leave the list as it is
+over-gone-last : {A : Type 0} (at k n : ℕ) (xs : List A) → at + k ≡ n → n ≤ length xs → over xs (gone at k (take n xs)) ≡ xs
+unfolding gone
+over-gone-last at k n xs e h =
+    let none : drop n (take n xs) ≡ [] = drop-of-length-le (take n xs) {i = n} (rw (length-take-le n xs h) (omega arith)) in
+    rw (e, none, append-nil, take-take at n xs (omega arith), over-own at xs)
+
 -- of the fragments of the first n rows, whose bytes stand at the front of the pool
 module _ (n : ℕ) (rows : List Row) (pool : List ℕ) (held : ℕ) (fit : B (take n rows) ≡ held) (within : held ≤ length pool) where
   abbrev view : List Frag
@@ -318,11 +325,20 @@ module _ (n : ℕ) (rows : List Row) (pool : List ℕ) (held : ℕ) (fit : B (ta
   pub gone-rows : (at k : ℕ) → over rows (gone at k (take n rows)) ≡ layRows (gone at k view) rows
   gone-rows at k = rw (map-gone rowOf at k view, cut-rows (take n rows) pool few)
 
+  -- the last ones go, and nothing moves
+  pub gone-last-rows : (at k : ℕ) → at + k ≡ n → n ≤ length rows → rows ≡ layRows (gone at k view) rows
+  gone-last-rows at k e h = sym (over-gone-last at k n rows e h) ∙ gone-rows at k
+
   span : (at k : ℕ) → at + k ≤ n → B (take k (drop at (take n rows))) ≡ B (take k (drop at rows))
   span at k h = omega (arith, total-within at k (take n rows), total-within at k rows, place (at + k) h, place at (omega arith))
 
   pub gone-bytes : (at k : ℕ) → at + k ≤ n → over pool (gone (B (take at rows)) (B (take k (drop at rows))) (take held pool)) ≡ layBytes (gone at k view) pool
   gone-bytes at k h = rw (cut-gone (take n rows) pool few at k, place at (omega arith), span at k h, fit)
+
+  pub gone-last-bytes : (at k : ℕ) → at + k ≡ n → pool ≡ layBytes (gone at k view) pool
+  gone-last-bytes at k e =
+      let t = total-within at k rows in
+      sym (over-gone-last (B (take at rows)) (B (take k (drop at rows))) held pool (omega (arith, ap (λ (i : ℕ). B (take i rows)) e, fit)) within) ∙ gone-bytes at k (omega arith)
 
   pub turned-rows : (a b e : ℕ) → a ≤ b → b ≤ e → e ≤ n → n ≤ length rows → turned a b e rows ≡ layRows (turned a b e view) rows
   turned-rows a b e h k l m = rw (map-turned rowOf a b e view, cut-rows (take n rows) pool few) (turned-over a b e n rows h k l m)

@@ -1,9 +1,9 @@
 -- The scan for a whole message, one turn a fragment: the scan of the rest is that of the whole.
 -- Assumes nothing.
-use mathlib.Core.Path.{_≡_, refl, ap, _∙_}
+use mathlib.Core.Path.{_≡_, refl, sym, ap, _∙_}
 use mathlib.Core.Logic.{_⊎_, inl, inr}
 use mathlib.Core.Bool.{Bool, true, false, cond, _&&_, and-false}
-use mathlib.Core.List.{List, [], _∷_}
+use mathlib.Core.List.{List, [], _∷_, map}
 use Prim.Native.Nat.{ℕ, suc, _+_, _*_, _/_, _%_, _<_, _≤_}
 use native.Mathlib.Numerals.{add-one}
 use native.Mathlib.Omega.{arith}
@@ -12,10 +12,10 @@ use lib.Dec.{ltb, eqb}
 use lib.ListN.{length, getD, take, drop, drop-of-length-le, List·getD-map}
 use lib.Seq.{drop-cons, getD-drop, getD-take}
 use Rattle.serial.specs.Serial.{next}
-use Rattle.table.specs.Rows.{blank, rowsOf}
+use Rattle.table.specs.Rows.{blank, rowsOf, some}
 use Rattle.table.specs.declared.Row.{Row}
-use Rattle.table.proofs.Scans.{head-at, tsn-at}
-use Rattle.fragments.specs.Frag.{Frag, bare, begins, ends, hasTsn}
+use Rattle.table.proofs.Scans.{neither, head-at, tsn-at}
+use Rattle.fragments.specs.Frag.{Frag, bare, ofRow, begins, ends, hasTsn}
 use Rattle.fragments.specs.Loose.{span, startsBy, scan, scanned}
 use Rattle.fragments.specs.declared.loose.Span.{Span}
 use Rattle.fragments.proofs.Run.{part, part-long}
@@ -51,6 +51,27 @@ scan-within-from i start want (x ∷ xs) =
 
 pub scan-within : (l : List Frag) → let s = scanned l in (s .from ≤ s .to) × (s .to ≤ length l)
 scan-within l = let k = scan-within-from 0 0 0 l in (k .0, omega arith)
+
+-- ── without a B, or without an E, there is no whole message ──
+
+no-end : (i start want : ℕ) (rs : List Row) → some (ofRow ends) rs ≡ false → scan i start want (map bare rs) ≡ span 0 0
+unfolding scan some
+no-end i start want [] e = refl
+no-end i start want (r ∷ rs) e = let f = neither (ends (bare r)) (some (ofRow ends) rs) e in rw (f .0) (no-end (suc i) (after i start want (bare r)) (next 32 (r .tsn)) rs (f .1))
+
+no-begin : (i start want : ℕ) (rs : List Row) → i ≤ start → some (ofRow begins) rs ≡ false → scan i start want (map bare rs) ≡ span 0 0
+unfolding scan some startsBy
+no-begin i start want [] h e = refl
+no-begin i start want (r ∷ rs) h e =
+    let f = neither (begins (bare r)) (some (ofRow begins) rs) e in
+    rw (f .0, le-ltb start i h, le-ltb (suc i) (suc i) (omega arith), and-false) (no-begin (suc i) (suc i) (next 32 (r .tsn)) rs (omega arith) (f .1))
+
+pub no-message : (rs : List Row) → (some (ofRow begins) rs && some (ofRow ends) rs) ≡ false → span 0 0 ≡ scanned (map bare rs)
+no-message rs e = go (some (ofRow begins) rs) refl e
+  where
+    go : (b : Bool) → some (ofRow begins) rs ≡ b → (b && some (ofRow ends) rs) ≡ false → span 0 0 ≡ scanned (map bare rs)
+    go true f g = sym (no-end 0 0 0 rs g)
+    go false f g = sym (no-begin 0 0 0 rs (omega arith) f)
 
 -- ── the scan, a turn at a time ──
 

@@ -1,11 +1,12 @@
 // Passes over the records of loose unordered fragments: `from` and n are a segment of the table's rows.
 ghost use mathlib.Core.Path.{_≡_};
+ghost use mathlib.Core.Bool.{_&&_};
 ghost use mathlib.Core.List.{map};
 ghost use Prim.Native.Nat.{_+_, _*_, _/_, _%_, _≤_, _<_};
 ghost use lib.Dec.{eqb};
 ghost use lib.ListN.{length, take, drop};
-ghost use Rattle.table.specs.Rows.{rowsOf, aheadOf};
-ghost use Rattle.fragments.specs.Frag.{bare, ofRow, tsnAfter};
+ghost use Rattle.table.specs.Rows.{rowsOf, some, aheadOf};
+ghost use Rattle.fragments.specs.Frag.{bare, ofRow, begins, ends, tsnAfter};
 ghost use Rattle.fragments.specs.Loose.{runDown, runUp, startsBy, scanned};
 use crate::long_length;
 
@@ -84,8 +85,8 @@ pub fn run_up(table: &[u32], size: usize, from: usize, n: usize, tsn: u32) -> us
     sum
 }
 
-// The first whole message: each B starts afresh, a break in TSN forgets the start, the first E reached ends it.
-pub fn scan(table: &[u32], size: usize, from: usize, n: usize) -> Span
+// The first whole message, one row after the other: each B starts afresh, a break in TSN forgets the start, the first E reached ends it.
+fn scan_rows(table: &[u32], size: usize, from: usize, n: usize) -> Span
     requires { ⌜ length (now table) ≡ 4 * size ⌝ }
     requires { ⌜ from + n ≤ size ⌝ }
     ensures { λ r. ⌜ r ≡ scanned (map bare (take n (drop from (rowsOf size (now (table .entry)))))) ⌝ }
@@ -108,6 +109,36 @@ pub fn scan(table: &[u32], size: usize, from: usize, n: usize) -> Span
         want = serial::tsn_next(tsn);
     }
     Span { from: 0, to: 0 }
+}
+
+// Whether some row is B and some is E: a pass over all of them.
+fn has_marks(table: &[u32], size: usize, from: usize, n: usize) -> bool
+    requires { ⌜ length (now table) ≡ 4 * size ⌝ }
+    requires { ⌜ from + n ≤ size ⌝ }
+    ensures { λ r. ⌜ r ≡ (some (ofRow begins) (take n (drop from (rowsOf size (now (table .entry))))) && some (ofRow ends) (take n (drop from (rowsOf size (now (table .entry)))))) ⌝ }
+{
+    let mut begin = false;
+    let mut end = false;
+    let mut i: usize = 0;
+    while i < n {
+        let flags = table[from + i] / 16777216;
+        begin = begin | (flags / 2 % 2 == 1);
+        end = end | (flags % 2 == 1);
+        i += 1;
+    }
+    begin & end
+}
+
+// The first whole message. Where B or E is missing there is none, and no row is walked.
+pub fn scan(table: &[u32], size: usize, from: usize, n: usize) -> Span
+    requires { ⌜ length (now table) ≡ 4 * size ⌝ }
+    requires { ⌜ from + n ≤ size ⌝ }
+    ensures { λ r. ⌜ r ≡ scanned (map bare (take n (drop from (rowsOf size (now (table .entry)))))) ⌝ }
+{
+    if !has_marks(table, size, from, n) {
+        return Span { from: 0, to: 0 };
+    }
+    scan_rows(table, size, from, n)
 }
 
 // Where the run starts once the row at index i is passed.

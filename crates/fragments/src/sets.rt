@@ -3,9 +3,12 @@ ghost use mathlib.Core.Path.{_≡_};
 ghost use mathlib.Core.List.{map};
 ghost use Prim.Native.Nat.{_+_, _*_, _≤_};
 ghost use lib.ListN.{length, take, drop};
-ghost use Rattle.table.specs.Rows.{rowsOf, aheadOf, upToLast};
+ghost use Rattle.table.specs.Rows.{rowsOf, some, aheadOf, upToLast};
 ghost use Rattle.fragments.specs.Frag.{bare, ofRow, hasSsn, ssnBefore, ends};
 ghost use Rattle.fragments.specs.Sets.{otherSsn, complete};
+
+// How many rows a pass looks at together.
+const BLOCK: usize = 16;
 
 // How many rows stand ahead of the first with this SSN; n where none has it.
 pub fn find_ssn(table: &[u32], size: usize, from: usize, n: usize, ssn: u16) -> usize
@@ -25,6 +28,23 @@ pub fn find_ssn(table: &[u32], size: usize, from: usize, n: usize, ssn: u16) -> 
     i
 }
 
+// Whether one of the n rows from one on has another SSN: a pass over all of them.
+fn has_other(table: &[u32], size: usize, from: usize, n: usize, ssn: u16) -> bool
+    requires { ⌜ length (now table) ≡ 4 * size ⌝ }
+    requires { ⌜ from + n ≤ size ⌝ }
+    ensures { λ r. ⌜ r ≡ some (ofRow (otherSsn ssn)) (take n (drop from (rowsOf size (now (table .entry))))) ⌝ }
+{
+    let wanted = ssn as u32;
+    let ids = 2 * size + from;
+    let mut found = false;
+    let mut i: usize = 0;
+    while i < n {
+        found = found | (table[ids + i] % 65536 != wanted);
+        i += 1;
+    }
+    found
+}
+
 // How many rows stand ahead of the first with another SSN; n where all have this one.
 pub fn run_ssn(table: &[u32], size: usize, from: usize, n: usize, ssn: u16) -> usize
     requires { ⌜ length (now table) ≡ 4 * size ⌝ }
@@ -41,6 +61,22 @@ pub fn run_ssn(table: &[u32], size: usize, from: usize, n: usize, ssn: u16) -> u
         i += 1;
     }
     i
+}
+
+// The same as run_ssn, for many rows: BLOCK of them in one pass, until one has another. Larger code than run_ssn's, and so slower for few rows.
+pub fn pass_ssn(table: &[u32], size: usize, from: usize, n: usize, ssn: u16) -> usize
+    requires { ⌜ length (now table) ≡ 4 * size ⌝ }
+    requires { ⌜ from + n ≤ size ⌝ }
+    ensures { λ r. ⌜ r ≡ aheadOf (ofRow (otherSsn ssn)) (take n (drop from (rowsOf size (now (table .entry))))) ⌝ }
+{
+    let mut i: usize = 0;
+    while BLOCK <= n - i {
+        if has_other(table, size, from + i, BLOCK, ssn) {
+            return i + run_ssn(table, size, from + i, n - i, ssn);
+        }
+        i += BLOCK;
+    }
+    i + run_ssn(table, size, from + i, n - i, ssn)
 }
 
 // The place of a new SSN: right after the last row whose SSN is before it, or first. From the end, since most come last.

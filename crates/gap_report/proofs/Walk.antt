@@ -45,17 +45,17 @@ snoc : (b : Block) (bs : List Block) → Last (b ∷ bs)
 snoc b [] = ([], b, refl)
 snoc b (c ∷ bs) = let s = snoc c bs in (b ∷ s .0, s .1, ap (λ (r : List Block). b ∷ r) (s .2))
 
-last : (bs : List Block) → 0 < wantFrom 0 bs → Last bs
+pub last : (bs : List Block) → 0 < wantFrom 0 bs → Last bs
 unfolding wantFrom
 last [] h = absurd (omega arith)
 last (b ∷ bs) h = snoc b bs
 
-want-snoc : (k : ℕ) (pre : List Block) (l : Block) → wantFrom k (pre ++ (l ∷ [])) ≡ l .end + 1
+pub want-snoc : (k : ℕ) (pre : List Block) (l : Block) → wantFrom k (pre ++ (l ∷ [])) ≡ l .end + 1
 unfolding wantFrom
 want-snoc k [] l = refl
 want-snoc k (p ∷ pre) l = want-snoc (p .end + 1) pre l
 
-grown : (pre : List Block) (l : Block) (o : ℕ) → o ≡ l .end + 1 → extend (pre ++ (l ∷ [])) o ≡ pre ++ (block (l .start) o ∷ [])
+pub grown : (pre : List Block) (l : Block) (o : ℕ) → o ≡ l .end + 1 → extend (pre ++ (l ∷ [])) o ≡ pre ++ (block (l .start) o ∷ [])
 unfolding extend
 grown [] l o e = rw (eq-eqb o (l .end + 1) e)
 grown (p ∷ []) l o e = rw (eq-eqb o (l .end + 1) e)
@@ -95,7 +95,7 @@ unfolding walk
 walk-more cum bs [] = (omega arith, omega arith)
 walk-more cum bs (t ∷ ts) = let a = taken-more cum bs t in let b = walk-more cum (taken cum bs t) ts in (omega arith, omega arith)
 
-walk-cons : (cum : ℕ) (bs : List Block) (t : ℕ) (ts : List ℕ) → walk cum bs (t ∷ ts) ≡ walk cum (taken cum bs t) ts
+pub walk-cons : (cum : ℕ) (bs : List Block) (t : ℕ) (ts : List ℕ) → walk cum bs (t ∷ ts) ≡ walk cum (taken cum bs t) ts
 unfolding walk
 walk-cons cum bs t ts = refl
 
@@ -108,7 +108,7 @@ module _ (size n : ℕ) (table : List ℕ) (sized : length table ≡ 4 * size) (
   pub held-long : length (held size n table) ≡ n
   held-long = length-map (take n (rowsOf size table)) (λ (r : Row). r .tsn) ∙ length-take-le n (rowsOf size table) (omega (arith, rows-long size table sized))
 
-  held-at : (i : ℕ) → i < n → getD table (size + i) 0 ≡ getD (held size n table) i 0
+  pub held-at : (i : ℕ) → i < n → getD table (size + i) 0 ≡ getD (held size n table) i 0
   held-at i h =
       tsn-at size table sized i (omega arith) refl
       ∙ sym (ap (λ (r : Row). r .tsn) (getD-take n (rowsOf size table) i blank h))
@@ -191,7 +191,7 @@ module _ {cum size n : ℕ} {table : List ℕ} {i : ℕ} {bs : List Block} {coun
 -- ── the walk with both lists: ss and es are ss₀ and es₀ with what was seen at their front ──
 
 -- a store over the last of what is there changes it
-over-last : (out done : List ℕ) (x v n : ℕ) → length done ≡ n → set (over out (done ++ (x ∷ []))) n v ≡ over out (done ++ (v ∷ []))
+pub over-last : (out done : List ℕ) (x v n : ℕ) → length done ≡ n → set (over out (done ++ (x ∷ []))) n v ≡ over out (done ++ (v ∷ []))
 unfolding over
 over-last out done x v n e = simp (length-append, append-snoc) (set-at done x (drop (length done + 1) out) v n e)
 

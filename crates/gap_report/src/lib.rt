@@ -1,10 +1,12 @@
 // The gap report: the runs of held TSNs above the cumulative one, as offsets of 16 bits.
 ghost use mathlib.Core.Path.{_≡_};
+ghost use mathlib.Core.Bool.{cond};
 ghost use Prim.Native.Nat.{_*_, _≤_};
-ghost use lib.ListN.{length, take};
+ghost use lib.Dec.{ltb};
+ghost use lib.ListN.{length, take, drop};
 ghost use Rattle.wire.specs.BigEndian.{over};
 ghost use Rattle.table.specs.Rows.{rowsOf};
-ghost use Rattle.gap_report.specs.Gap.{blocks, tsnsOf, startsOf, endsOf, report, reported};
+ghost use Rattle.gap_report.specs.Gap.{blocks, adjacent, tsnsOf, startsOf, endsOf, report, reported};
 
 // The farthest offset that a report names: 16 bits.
 const FARTHEST: u32 = 65535;
@@ -13,6 +15,37 @@ const FARTHEST: u32 = 65535;
 pub enum Reported {
     Count(usize),
     Short,
+}
+
+// The smaller of two numbers.
+fn least(a: usize, b: usize) -> usize
+    ensures { λ r. ⌜ r ≡ cond (ltb a b) a b ⌝ }
+{
+    if a < b {
+        return a;
+    }
+    b
+}
+
+// How many of the TSNs from row `from` up to n follow one another, the first of them the given one; at most `room`. A simple pass, since most arrive in order.
+fn following(table: &[u32], size: usize, from: usize, n: usize, room: usize, tsn: u32) -> usize
+    requires { ⌜ length (now table) ≡ 4 * size ⌝ }
+    requires { ⌜ from ≤ n ⌝ }
+    requires { ⌜ n ≤ size ⌝ }
+    ensures { λ r. ⌜ r ≡ adjacent room tsn (drop from (tsnsOf (take n (rowsOf size (now (table .entry)))))) ⌝ }
+{
+    let tsns = size + from;
+    let most = least(n - from, room);
+    let mut want = tsn;
+    let mut i: usize = 0;
+    while i < most {
+        if table[tsns + i] != want {
+            return i;
+        }
+        i += 1;
+        want = serial::tsn_next(want);
+    }
+    i
 }
 
 // How many blocks the report over the first n rows has. Nothing is written: the dry pass.
@@ -65,20 +98,24 @@ fn write_blocks(
     let mut want: u32 = 0;
     let mut i: usize = 0;
     while i < n {
-        let offset = serial::tsn_offset(cumulative, table[size + i]);
+        let tsn = table[size + i];
+        let offset = serial::tsn_offset(cumulative, tsn);
         i += 1;
         if 0 < offset {
             if offset <= FARTHEST {
-                let place = offset as u16;
-                let next = offset + 1;
                 if offset == want {
-                    ends[count - 1] = place;
-                    want = next;
+                    let room = (FARTHEST - offset) as usize;
+                    let more = following(table, size, i, n, room, serial::tsn_next(tsn));
+                    let last = offset + more as u32;
+                    ends[count - 1] = last as u16;
+                    want = last + 1;
+                    i += more;
                 } else {
+                    let place = offset as u16;
                     starts[count] = place;
                     ends[count] = place;
                     count += 1;
-                    want = next;
+                    want = offset + 1;
                 }
             }
         }

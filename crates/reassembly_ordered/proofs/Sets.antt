@@ -5,7 +5,7 @@ use mathlib.Core.Bool.{Bool, true, false, not, _||_, _&&_, cond, true≢false}
 use mathlib.Core.List.{List, [], _∷_, _++_, map}
 use Prim.Native.Nat.{ℕ, suc, _+_, _-_, _≤_, _<_}
 use native.Mathlib.Omega.{arith}
-use borrow.Author.Tests.{lt-ltb, leb-true}
+use borrow.Author.Tests.{lt-ltb, le-ltb, ltb-false, leb-true}
 use lib.Dec.{ltb, leb}
 use lib.ListN.{length, take, drop, getD, length-drop, take-append-drop}
 use lib.Seq.{length-take-le, take-take, take-at, drop-at, drop-drop}
@@ -20,7 +20,7 @@ use Rattle.fragments.specs.Frag.{Frag, begins, ends, ssnOf, hasTsn, tsnBefore, 
 use Rattle.fragments.specs.Words.{size, any, placed}
 use Rattle.fragments.specs.Sets.{otherSsn, setOf, rises, complete, joins, grownSet, stored}
 use Rattle.fragments.specs.Pool.{cut, layRows, layBytes}
-use Rattle.fragments.proofs.Pool.{B, cut-cons, cut-size, fit-cut, fit-put, laid-view, size-put, total-within}
+use Rattle.fragments.proofs.Pool.{B, cut-cons, cut-size, fit-cut, fit-put, laid-view, size-put, total-take, total-within}
 use Rattle.fragments.proofs.Words.{put-behind, put-in-front, set-none}
 use Rattle.fragments.proofs.Seen.{any-cut, aheadOfSet, rowsOfSet, set-cut, stored-set, stored-fresh, grown-cut, complete-cut}
 use Rattle.fragments.proofs.Complete.{segment-rest}
@@ -51,6 +51,16 @@ module _ (p : Row → Bool) where
           → b || some p rs ≡ ltb 0 (aheadOf (λ (r : Row). not (p r)) (drop (cond b 0 (suc (aheadOf p rs))) (r ∷ rs)))
       go true e h = rw e (sym (lt-ltb 0 (suc (aheadOf (λ (r : Row). not (p r)) rs)) (omega arith)))
       go false e h = h
+
+-- ── its size ──
+
+-- where all that is held is not above the maximum with so many bytes more, a part of it is not
+pub not-large : (q : Counts) (rows : List Row) (at k more : ℕ) → at + k ≤ count q → B (take (count q) rows) ≡ q .«n_bytes» →
+    ltb (q .«max_message_size») (q .«n_bytes» + more) ≡ false → false ≡ ltb (q .«max_message_size») (B (take k (drop at rows)) + more)
+not-large q rows at k more f e h =
+    let within = total-within at k rows in
+    let most = total-take (at + k) (count q) rows f in
+    sym (le-ltb (q .«max_message_size») (B (take k (drop at rows)) + more) (omega (arith, ltb-false (q .«max_message_size») (q .«n_bytes» + more) h)))
 
 -- ── a list put into a segment ──
 

@@ -2,7 +2,10 @@
 ghost use mathlib.Core.Path.{_≡_};
 ghost use mathlib.Core.Bool.{false};
 ghost use Prim.Native.Nat.{_+_, _*_, _≤_, _<_};
-ghost use lib.ListN.{length};
+ghost use lib.Dec.{ltb};
+ghost use lib.ListN.{length, take, drop};
+ghost use Rattle.table.specs.Rows.{rowsOf, total};
+ghost use Rattle.fragments.specs.Frag.{longLength};
 ghost use Rattle.reassembly_state.specs.Limits.{fragsMost, bytesMost};
 ghost use Rattle.chunks.specs.Message.{flagTold};
 ghost use Rattle.reassembly_state.specs.Model.{roomFor, keepOrdered, pushOrdered};
@@ -15,6 +18,21 @@ use reassembly_state::FRAGMENTS;
 use reassembly_state::Pushed;
 use reassembly_state::record;
 use reassembly_state::room;
+
+// Whether the set of run rows at index at is above the maximum with so many bytes more. Where all that is held is not, it is not.
+fn too_large(queue: Counts, table: &[u32], at: usize, run: usize, more: usize) -> bool
+    requires { ⌜ length (now table) ≡ 4 * fragsMost ⌝ }
+    requires { ⌜ count queue ≤ fragsMost ⌝ }
+    requires { ⌜ at + run ≤ count queue ⌝ }
+    requires { ⌜ total longLength (take (count queue) (rowsOf fragsMost (now table))) ≡ queue .«n_bytes» ⌝ }
+    ensures { λ r. ⌜ r ≡ ltb (queue .«max_message_size») (total longLength (take run (drop at (rowsOf fragsMost (now (table .entry))))) + more) ⌝ }
+{
+    if !room::above(queue.max_message_size, queue.n_bytes, more) {
+        return false;
+    }
+    let size = fragments::sum_long(table, FRAGMENTS, at, run);
+    room::above(queue.max_message_size, size, more)
+}
 
 // The first fragment of a set, which goes to its place by SSN.
 fn new_set(
@@ -79,7 +97,7 @@ fn join_set(
     let mut row = record::row_of(chunk, more);
     let first = table::row_at(table, FRAGMENTS, at);
     row.ppi = first.ppi;
-    let place = at + table::place_tsn(table, FRAGMENTS, at, run, row.tsn);
+    let place = at + table::walk_back(table, FRAGMENTS, at, run, row.tsn);
     let held = queue.finished + (queue.unordered + queue.ordered);
     fragments::put_fragment(
         table,
@@ -117,10 +135,9 @@ pub fn push(
     let from = queue.finished + queue.unordered;
     let ahead = fragments::sets::find_ssn(table, FRAGMENTS, from, queue.ordered, ssn);
     let at = from + ahead;
-    let run = fragments::sets::run_ssn(table, FRAGMENTS, at, queue.ordered - ahead, ssn);
+    let run = fragments::sets::pass_ssn(table, FRAGMENTS, at, queue.ordered - ahead, ssn);
     let more = user_data.len();
-    let size = fragments::sum_long(table, FRAGMENTS, at, run);
-    if room::above(queue.max_message_size, size, more) {
+    if too_large(queue, table, at, run, more) {
         return room::unchanged(queue, Flag::Refused(6));
     }
     if serial::sna16lt(ssn, queue.next_ssn) {

@@ -130,7 +130,17 @@ fn take(queue: Counts, table: &mut [u32], pool: &mut [u8], buffer: &mut [u8]) ->
     let first = table::row_at(table, FRAGMENTS, from);
     let ssn = (first.id % 65536) as u16;
     let held = queue.finished + (queue.unordered + queue.ordered);
-    fragments::remove_fragments(table, FRAGMENTS, held, pool, queue.n_bytes, from, k);
+    fragments::close_fragments(
+        table,
+        FRAGMENTS,
+        held,
+        pool,
+        queue.n_bytes,
+        from,
+        k,
+        off,
+        size,
+    );
     Taken {
         answer: Took::Message(in_hand(queue.finished == 0, ssn, first.ppi, size)),
         queue: without(queue, k, size, ssn),

@@ -74,7 +74,7 @@ fn store_loose(
     let from = queue.finished;
     let loose = queue.unordered;
     let held = from + (loose + queue.ordered);
-    let place = from + table::place_tsn(table, FRAGMENTS, from, loose, row.tsn);
+    let place = from + table::walk_back(table, FRAGMENTS, from, loose, row.tsn);
     fragments::put_fragment(
         table,
         FRAGMENTS,

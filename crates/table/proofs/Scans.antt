@@ -9,7 +9,7 @@ use native.Mathlib.Omega.{arith}
 use lib.Dec.{ltb}
 use borrow.Author.Tests.{ltb-true, ltb-false, lt-ltb, le-ltb}
 use lib.ListN.{length, getD, take, drop, length-drop, drop-of-length-le, List·getD-map}
-use lib.Seq.{take-suc, drop-cons, getD-drop, getD-take, length-take-le}
+use lib.Seq.{take-suc, take-add, drop-drop, drop-cons, getD-drop, getD-take, length-take-le}
 use Rattle.table.specs.Rows.{blank, rowsOf, total, some, upToLast, aheadOf}
 use Rattle.table.specs.declared.Row.{Row}
 use Rattle.table.proofs.Columns.{columns}
@@ -25,6 +25,10 @@ pub total-snoc : (len : ℕ → ℕ) (rs : List Row) (r : Row) → total len (rs
 unfolding total
 total-snoc len [] r = omega arith
 total-snoc len (x ∷ rs) r = rw (total-snoc len rs r) (omega arith)
+
+pub neither : (a b : Bool) → (a || b) ≡ false → (a ≡ false) × (b ≡ false)
+neither false b e = (refl, e)
+neither true b e = let z : _≡_ {A = ℕ} 0 1 = ap (λ (t : Bool). cond t 0 1) e in absurd (omega arith)
 
 module _ (p : Row → Bool) where
   pub some-snoc : (rs : List Row) (r : Row) → some p (rs ++ (r ∷ [])) ≡ (some p rs || p r)
@@ -51,6 +55,25 @@ module _ (p : Row → Bool) where
 
   pub last-passed : (rs : List Row) (from k q : ℕ) → q ≡ k + 1 → from + k < length rs → p (getD rs (from + k) blank) ≡ false → upToLast p (take q (drop from rs)) ≡ upToLast p (take k (drop from rs))
   last-passed rs from k q e h b = rw (e, rows-more rs from k h) (last-before (take k (drop from rs)) (getD rs (from + k) blank) b)
+
+  -- of at + k rows: where none of the k does, the last that does is ahead of them
+  none-behind : (xs ys : List Row) → some p ys ≡ false → some p (xs ++ ys) ≡ some p xs
+  unfolding some
+  none-behind [] ys e = e
+  none-behind (x ∷ xs) ys e = ap (λ (t : Bool). p x || t) (none-behind xs ys e)
+
+  last-of-none : (ys : List Row) → some p ys ≡ false → upToLast p ys ≡ 0
+  unfolding upToLast some
+  last-of-none [] e = refl
+  last-of-none (y ∷ ys) e = let f = neither (p y) (some p ys) e in rw (f .1, f .0)
+
+  last-ahead : (xs ys : List Row) → some p ys ≡ false → upToLast p (xs ++ ys) ≡ upToLast p xs
+  unfolding upToLast
+  last-ahead [] ys e = last-of-none ys e
+  last-ahead (x ∷ xs) ys e = rw (none-behind xs ys e, last-ahead xs ys e)
+
+  pub last-passed-all : (rs : List Row) (from at k q : ℕ) → q ≡ at + k → some p (take k (drop (from + at) rs)) ≡ false → upToLast p (take q (drop from rs)) ≡ upToLast p (take at (drop from rs))
+  last-passed-all rs from at k q e n = rw (e, take-add at k (drop from rs), drop-drop at from rs) (last-ahead (take at (drop from rs)) (take k (drop (from + at) rs)) n)
 
   pub last-none : upToLast p [] ≡ 0
   unfolding upToLast

@@ -12,6 +12,9 @@ ghost use Rattle.table.specs.Rows.{row, blank, rowsOf, total, some, upTo
 pub mod bytes;
 mod words;
 
+// How many rows a pass from the end looks at together.
+const BLOCK: usize = 16;
+
 // One record: flags and data length, TSN, stream and SSN, payload identifier.
 pub struct Row {
     pub head: u32,
@@ -37,26 +40,26 @@ pub fn row_at(table: &[u32], size: usize, i: usize) -> Row
 }
 
 // A data length of 16 bits, in the low half of a head.
-fn short_length(head: u32) -> usize
+fn short_length(head: u32) -> u32
     ensures { λ r. ⌜ r ≡ shortLength head ⌝ }
 {
-    (head % 65536) as usize
+    head % 65536
 }
 
-// The sum of the data lengths, of 16 bits each, of the n rows from one on.
+// The sum of the data lengths, of 16 bits each, of the n rows from one on. So many fit in 32 bits, in which a pass adds twice as many at once.
 pub fn sum_short(table: &[u32], size: usize, from: usize, n: usize) -> usize
     requires { ⌜ size ≤ 65536 ⌝ }
     requires { ⌜ length (now table) ≡ 4 * size ⌝ }
     requires { ⌜ from + n ≤ size ⌝ }
     ensures { λ r. ⌜ r ≡ total shortLength (take n (drop from (rowsOf size (now (table .entry))))) ⌝ }
 {
-    let mut sum: usize = 0;
+    let mut sum: u32 = 0;
     let mut i: usize = 0;
     while i < n {
         sum += short_length(table[from + i]);
         i += 1;
     }
-    sum
+    sum as usize
 }
 
 // Whether a TSN is held by one of the n rows from one on: a pass over all of them.
@@ -109,8 +112,25 @@ pub fn find_tsn(table: &[u32], size: usize, from: usize, n: usize, tsn: u32) -> 
     i
 }
 
+// Whether one of the n rows from one on is before a TSN: a pass over all of them.
+fn has_before(table: &[u32], size: usize, from: usize, n: usize, tsn: u32) -> bool
+    requires { ⌜ length (now table) ≡ 4 * size ⌝ }
+    requires { ⌜ from + n ≤ size ⌝ }
+    ensures { λ r. ⌜ r ≡ some (tsnBefore tsn) (take n (drop from (rowsOf size (now (table .entry))))) ⌝ }
+{
+    let tsns = size + from;
+    let mut found = false;
+    let mut i: usize = 0;
+    while i < n {
+        let earlier = serial::sna32lt(table[tsns + i], tsn);
+        found = found | earlier;
+        i += 1;
+    }
+    found
+}
+
 // The place of a new TSN among the n rows from one on: right after the last one that is before it, or first. From the end, since most come last.
-pub fn place_tsn(table: &[u32], size: usize, from: usize, n: usize, tsn: u32) -> usize
+pub fn walk_back(table: &[u32], size: usize, from: usize, n: usize, tsn: u32) -> usize
     requires { ⌜ length (now table) ≡ 4 * size ⌝ }
     requires { ⌜ from + n ≤ size ⌝ }
     ensures { λ r. ⌜ r ≡ upToLast (tsnBefore tsn) (take n (drop from (rowsOf size (now (table .entry))))) ⌝ }
@@ -125,6 +145,30 @@ pub fn place_tsn(table: &[u32], size: usize, from: usize, n: usize, tsn: u32) ->
         place = at;
     }
     0
+}
+
+// The same place as walk_back's, for many rows: the last one is looked at first, and then BLOCK rows in one pass, from the end on, until one of
+// them is before it. Larger code than walk_back's, and so slower for few rows.
+pub fn place_tsn(table: &[u32], size: usize, from: usize, n: usize, tsn: u32) -> usize
+    requires { ⌜ length (now table) ≡ 4 * size ⌝ }
+    requires { ⌜ from + n ≤ size ⌝ }
+    ensures { λ r. ⌜ r ≡ upToLast (tsnBefore tsn) (take n (drop from (rowsOf size (now (table .entry))))) ⌝ }
+{
+    if 0 < n {
+        let last = n - 1;
+        if serial::sna32lt(table[size + from + last], tsn) {
+            return n;
+        }
+    }
+    let mut left = n;
+    while BLOCK <= left {
+        let at = left - BLOCK;
+        if has_before(table, size, from + at, BLOCK, tsn) {
+            return walk_back(table, size, from, left, tsn);
+        }
+        left = at;
+    }
+    walk_back(table, size, from, left, tsn)
 }
 
 // One row put in at index at of the first n.

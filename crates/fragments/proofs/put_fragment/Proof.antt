@@ -14,7 +14,7 @@ put-bytes-requires c κs =
     let s = c .before .before .before .before .before .before in
     let a = s .args in
     let front = total-take (a .at) (a .n) (rowsOf (a .size) (a .table .now)) (omega arith) in
-    (omega (arith, c .before .sum-long .ensures), omega arith)
+    (omega (arith, c .before .start-of .ensures), omega arith)
 
 returns : tie.Need-returns
 returns c =
@@ -28,7 +28,7 @@ returns c =
     let pool = a .pool .now in
     let small : a .held ≤ length pool = omega arith in (
       rw (r .put-row .ensures) (put-rows (a .n) rows pool (a .held) (p .0) small (a .at) (a .row) (a .bytes .now) (p .1 .1)),
-      rw (b .put-bytes .ensures, l .sum-long .ensures) (put-bytes (a .n) rows pool (a .held) (p .0) small (a .at) (a .row) (a .bytes .now) (omega arith)),
+      rw (b .put-bytes .ensures, l .start-of .ensures) (put-bytes (a .n) rows pool (a .held) (p .0) small (a .at) (a .row) (a .bytes .now) (omega arith)),
     )
 
 pub put-fragment-spec : {M : Type 1} → statement M

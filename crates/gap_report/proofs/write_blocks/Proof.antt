@@ -1,8 +1,10 @@
 -- `gap_report::write_blocks` meets its contract: after i turns the blocks of the first i TSNs stand in front of both lists (`Put`).
 -- Assumes nothing.
-use Prim.Native.Nat.{_-_}
+use Prim.Native.Nat.{_+_, _-_}
 use native.Mathlib.Omega.{arith}
-use Rattle.gap_report.proofs.Walk.{Put, put-none, put-room, put-skip, put-open, put-grow, put-all, open-room, grow-room, low, high}
+use borrow.Author.Needs.{needs}
+use Rattle.gap_report.proofs.Walk.{Put, put-none, put-room, put-skip, put-open, put-all, open-room, grow-room, low, high}
+use Rattle.gap_report.proofs.Follow.{put-follow, follow-few}
 use Rattle.gap_report.proofs.write_blocks.Statement.{statement}
 use Rattle.gap_report.proofs.write_blocks.Tie as tie
 
@@ -11,16 +13,6 @@ Inv table size n cumulative starts₀ ends₀ count₀ want₀ i₀ starts ends 
 
 abbrev μ : tie.MeasureT-loop
 μ table size n cumulative starts₀ ends₀ count₀ want₀ i₀ starts ends count want i = n - i
-
-some : tie.Need-sub-ends Inv μ
-some c =
-    let a = c .before .before .before in
-    grow-room (a .before .before .before .loop .inv) (omega arith) (a .tsn-offset .ensures) (c .before .before .if1 .taken) (c .if3 .taken)
-
-grow : tie.Need-loop-again Inv μ
-grow c =
-    let a = c .before .before .before in
-    put-grow (a .before .before .before .loop .inv) (omega arith) (a .tsn-offset .ensures) (c .before .before .if1 .taken) (c .before .if2 .taken) (c .if3 .taken)
 
 fits : tie.Need-slice-write-starts Inv μ
 fits c =
@@ -37,6 +29,26 @@ open′ c =
     let a = c .before .before .before in
     put-open (a .before .before .before .loop .inv) (omega arith) (a .tsn-offset .ensures) (c .before .before .if1 .taken) (c .before .if2 .taken) (c .if3 .left)
 
+-- the block to extend
+some : tie.Need-sub-ends Inv μ
+some c =
+    let t = c .before .before in
+    let a = t .before .before .before in
+    grow-room (a .before .before .before .loop .inv) (omega arith) (a .tsn-offset .ensures) (t .before .before .if1 .taken) (t .if3 .taken)
+
+near : tie.Need-cast-ends Inv μ
+near c =
+    let l = c .before .before .before .before .before in
+    let i = l .before .before .before .loop in
+    omega (arith, follow-few (i .inv) (i .i + 1) (65535 - l .tsn-offset .result) (c .before .tsn-next .result) (c .following .ensures))
+
+follow : tie.Need-loop-again Inv μ
+follow c =
+    let t = c .before .before in
+    let a = t .before .before .before in
+    let f = rw (c .before .tsn-next .ensures) at (c .following .ensures) in
+    put-follow (a .before .before .before .loop .inv) (omega arith) (a .tsn-offset .ensures) (t .before .before .if1 .taken) (t .before .if2 .taken) (t .if3 .taken) (c .following .result) f
+
 pub write-blocks-spec : {M : Type 1} → statement M
 write-blocks-spec =
     tie.close
@@ -45,16 +57,18 @@ write-blocks-spec =
     let s = c .before .before .before in
     let a = s .args in
     put-none (a .cumulative) (a .size) (a .n) (a .table .now) (a .starts .now) (a .ends .now) (s .pre .0) (s .pre .1 .0) (s .pre .1 .1 .0) (s .pre .1 .1 .1))
-    (λ c. omega arith) (λ c. omega arith) (λ c. omega arith) (λ c κs. tt) (λ c. omega arith) (λ c. omega arith) (λ c. omega arith)
-    some
-    (λ c. omega (arith, put-room (c .before .before .before .before .before .before .loop .inv)))
-    (λ c. omega (arith, some c, put-room (c .before .before .before .before .before .before .loop .inv)))
-    (λ c. omega arith) grow
+    (λ c. omega arith) (λ c. omega arith) (λ c. omega arith) (λ c κs. tt) (λ c. omega arith)
+    (λ c. omega arith) (λ c κs. tt) (λ c κs. search needs)
+    (λ c. omega (arith, near c)) (λ c. omega (arith, near c)) near some
+    (λ c. omega (arith, put-room (c .before .before .before .before .before .before .before .before .loop .inv)))
+    (λ c. omega (arith, some c, put-room (c .before .before .before .before .before .before .before .before .loop .inv)))
+    (λ c. omega (arith, near c)) (λ c. omega (arith, follow c .seen .within)) (λ c. omega (arith, follow c .seen .within)) follow
+    (λ c. omega arith)
     (λ c. omega (arith, put-room (c .before .before .before .before .before .before .loop .inv)))
     fits
     (λ c. omega (arith, put-room (c .before .before .before .before .before .before .loop .inv)))
     fits′
-    (λ c. omega arith)
+    (λ c. omega arith) (λ c. omega arith)
     (λ c. omega arith) open′
     (λ c. omega arith) (λ c. put-skip (c .before .before .before .before .before .loop .inv) (omega arith) (c .before .before .tsn-offset .ensures) (high _ (c .before .if1 .taken) (c .if2 .left)))
     (λ c. omega arith) (λ c. put-skip (c .before .before .before .before .loop .inv) (omega arith) (c .before .tsn-offset .ensures) (low _ (c .if1 .left)))

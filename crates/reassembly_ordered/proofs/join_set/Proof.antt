@@ -50,21 +50,21 @@ some-there c = search needs
 stands : (c : tie.Start) → c .args .at + c .args .run ≤ count (c .args .queue)
 stands c = omega (arith, run-fits (of c) (ok c .few) (full c) (c .args .chunk .«stream_sequence_number»), set-at c, set-run c)
 
-abbrev start : tie.After-place-tsn → tie.Start
+abbrev start : tie.After-walk-back → tie.Start
 start c = c .before .before .before .before .before .before .before .before
 
-abbrev put : tie.After-put-fragment → tie.After-place-tsn
+abbrev put : tie.After-put-fragment → tie.After-walk-back
 put c = c .before .before .before .before .before
 
 abbrev asked : tie.After-is-complete-arg → tie.Start
 asked c = start (put (c .before .before .before .before .before))
 
-placed : (c : tie.After-place-tsn) → c .place-tsn .result ≤ start c .args .run
+placed : (c : tie.After-walk-back) → c .walk-back .result ≤ start c .args .run
 placed c =
     let s = start c in
     let r = c .before .before .before .before in
     let within = last-within (tsnBefore (r .row-of .result .tsn)) (take (s .args .run) (drop (s .args .at) (of s .rows))) in
-    omega (arith, within, segment-long (of s .rows) (s .args .at) (s .args .run) (omega (arith, stands s, room s, full s)), c .place-tsn .ensures)
+    omega (arith, within, segment-long (of s .rows) (s .args .at) (s .args .run) (omega (arith, stands s, room s, full s)), c .walk-back .ensures)
 
 fits : tie.Need-put-fragment-requires
 fits c κs =
@@ -82,7 +82,7 @@ returns c =
     let a = p .before .before in
     let r = a .before .before in
     let s = start p in
-    join-stored (of s) (ok s) (full s) (s .args .chunk) (s .args .user-data .now) (small s) (short s) (set-at s) (set-run s) (some-there s) (r .row-of .ensures) (a .row-at .ensures) (p .place-tsn .ensures) (f .put-fragment .ensures .0) (f .put-fragment .ensures .1) (d .is-complete .ensures)
+    join-stored (of s) (ok s) (full s) (s .args .chunk) (s .args .user-data .now) (small s) (short s) (set-at s) (set-run s) (some-there s) (r .row-of .ensures) (a .row-at .ensures) (p .walk-back .ensures) (f .put-fragment .ensures .0) (f .put-fragment .ensures .1) (d .is-complete .ensures)
 
 pub join-set-spec : {M : Type 1} → statement M
 join-set-spec =

@@ -1,6 +1,6 @@
 -- `reassembly_ordered::push` meets its contract: the passes find the set, the four questions are asked in their order, and what is kept goes to a new set or to its own.
 -- Assumes nothing.
-use mathlib.Core.Path.{_≡_, sym, ap, _∙_}
+use mathlib.Core.Path.{_≡_, sym, _∙_}
 use mathlib.Core.Bool.{Bool, false, _&&_, cond}
 use mathlib.Core.List.{List}
 use Prim.Native.Nat.{ℕ, _+_, _*_, _<_, _≤_}
@@ -57,29 +57,29 @@ ahead-few c =
     let s = start c in
     omega (arith, ahead-fits (of s) (ok s .few) (full s) (s .args .chunk .«stream_sequence_number»), c .find-ssn .ensures)
 
-abbrev begun : tie.After-run-ssn → tie.Start
+abbrev begun : tie.After-pass-ssn → tie.Start
 begun c = start (c .before .before .before)
 
-abbrev at : tie.After-run-ssn → ℕ
+abbrev at : tie.After-pass-ssn → ℕ
 at c = firstOrdered (of (begun c)) + c .before .before .before .find-ssn .result
 
-set : (c : tie.After-run-ssn) → let s = begun c in (at c ≡ setAt (of s) (s .args .chunk .«stream_sequence_number»)) × (c .run-ssn .result ≡ setRun (of s) (s .args .chunk .«stream_sequence_number»))
+set : (c : tie.After-pass-ssn) → let s = begun c in (at c ≡ setAt (of s) (s .args .chunk .«stream_sequence_number»)) × (c .pass-ssn .result ≡ setRun (of s) (s .args .chunk .«stream_sequence_number»))
 set c =
     let s = begun c in
-    set-found (of s) (ok s .few) (full s) (s .args .chunk .«stream_sequence_number») (c .before .before .before .find-ssn .ensures) (c .run-ssn .ensures)
+    set-found (of s) (ok s .few) (full s) (s .args .chunk .«stream_sequence_number») (c .before .before .before .find-ssn .ensures) (c .pass-ssn .ensures)
 
-stands : (c : tie.After-run-ssn) → at c + c .run-ssn .result ≤ count (begun c .args .queue)
+stands : (c : tie.After-pass-ssn) → at c + c .pass-ssn .result ≤ count (begun c .args .queue)
 stands c =
     let s = begun c in
     omega (arith, run-fits (of s) (ok s .few) (full s) (s .args .chunk .«stream_sequence_number»), set c)
 
 -- ── the questions ──
 
-abbrev rows : tie.After-run-ssn → List Row
-rows c = take (c .run-ssn .result) (drop (at c) (of (begun c) .rows))
+abbrev rows : tie.After-pass-ssn → List Row
+rows c = take (c .pass-ssn .result) (drop (at c) (of (begun c) .rows))
 
-abbrev passed : tie.After-above → tie.After-run-ssn
-passed c = c .before .before .before
+abbrev passed : tie.After-too-large → tie.After-pass-ssn
+passed c = c .before .before
 
 -- what is promised, and what is where all is well
 abbrev pushed : tie.Start → After Bool
@@ -89,7 +89,7 @@ abbrev kept : tie.Start → After Bool
 kept c = laid (of c) (keepOrdered (view (of c)) (new c))
 
 -- what they make of it
-is : (c : tie.After-run-ssn) → let s = begun c in
+is : (c : tie.After-pass-ssn) → let s = begun c in
     pushed s
     ≡ answered (of s)
     (ltb (s .args .queue .«max_message_size») (B (rows c) + length (s .args .user-data .now)))
@@ -99,10 +99,8 @@ is : (c : tie.After-run-ssn) → let s = begun c in
     (kept s)
 is c = let s = begun c in push-is (of s) (ok s) (full s) (s .args .chunk) (s .args .user-data .now) (small s) (set c .0) (set c .1)
 
-large : (c : tie.After-above) → let s = begun (passed c) in ltb (s .args .queue .«max_message_size») (B (rows (passed c)) + length (s .args .user-data .now)) ≡ c .above .result
-large c =
-    let s = begun (passed c) in
-    ap (λ (n : ℕ). ltb (s .args .queue .«max_message_size») (n + length (s .args .user-data .now))) (sym (c .before .sum-long .ensures)) ∙ sym (c .above .ensures)
+large : (c : tie.After-too-large) → let s = begun (passed c) in ltb (s .args .queue .«max_message_size») (B (rows (passed c)) + length (s .args .user-data .now)) ≡ c .too-large .result
+large c = sym (c .too-large .ensures)
 
 refused : tie.Need-returns
 refused c =
@@ -124,7 +122,7 @@ again c =
     stays (of (begun (passed a))) (c .unchanged3 .ensures)
     ∙ sym (is (passed a) ∙ rw (large a ∙ o .before .if1 .left, sym (o .sna16lt .ensures) ∙ n .if2 .left, sym (h .has-tsn .ensures) ∙ c .before .if3 .taken))
 
-abbrev asked : tie.Else3 → tie.After-run-ssn
+abbrev asked : tie.Else3 → tie.After-pass-ssn
 asked c = passed (c .before .before .before .before .before .before)
 
 -- then the room decides
@@ -144,7 +142,7 @@ crowded c =
 
 -- ── with room ──
 
-abbrev with : tie.Else4 → tie.After-run-ssn
+abbrev with : tie.Else4 → tie.After-pass-ssn
 with c = asked (c .before .before)
 
 room : (c : tie.Else4) → let q = begun (with c) .args in (count (q .queue) + 1 ≤ fragsMost) × (q .queue .«n_bytes» + length (q .user-data .now) ≤ bytesMost)
@@ -176,8 +174,7 @@ push-spec =
     (λ c. omega (arith, ok (start c) .few, ahead-few c))
     (λ c. ahead-few (c .before .before))
     (λ c κs. (omega arith, omega (arith, ok (start (c .before .before)) .few, ahead-few (c .before .before))))
-    (λ c κs. (omega arith, (omega arith, omega (arith, ok (begun (c .before)) .few, stands (c .before)))))
-    (λ c κs. search needs)
+    (λ c κs. let r = c .before in let k = ok (begun r) in (sized (begun r), (k .few, (stands r, k .sums))))
     (λ c κs. search needs)
     (λ c. search needs)
     refused

@@ -39,7 +39,7 @@ sized l = l .before .before .before .before
 abbrev copied : tie.After-put-bytes → tie.After-sum-long
 copied p = p .before .before .before .before .before .before .before
 
-abbrev gone : tie.After-remove-fragments → tie.After-put-bytes
+abbrev gone : tie.After-close-fragments → tie.After-put-bytes
 gone r = r .before .before .before .before .before .before .before .before .before .before
 
 in-turn : (g : tie.After-in-turn) → InTurn (of (begun g)) (g .in-turn .result)
@@ -86,11 +86,13 @@ inside c =
     let k = ok (begun g) in
     omega (arith, ends g, o .sum-long2 .ensures, l .sum-long .ensures, k .within, k .sums)
 
-removes : tie.Need-remove-fragments-requires
-removes c κs =
-    let g = sized (copied (c .before .before .before .before .before .before .before .before .before)) in
+closes : tie.Need-close-fragments-requires
+closes c κs =
+    let p = c .before .before .before .before .before .before .before .before .before in
+    let l = copied p in
+    let g = sized l in
     let k = ok (begun g) in
-    (omega arith, (omega arith, (k .few, (omega (arith, in-turn g .upward, within g), (k .sums, omega (arith, k .within, k .sums))))))
+    (omega arith, (k .few, (omega (arith, in-turn g .upward, within g), (k .sums, (omega (arith, k .within, k .sums), (p .before .before .before .before .sum-long2 .ensures, l .sum-long .ensures))))))
 
 counts : tie.Need-without-requires
 counts c κs =
@@ -112,8 +114,8 @@ whole c =
     let some : 0 < t .to - t .from = omega (arith, l .before .before .if1 .left) in
     let room = p .before .before .before .before .before .before .if2 .left in
     takes-whole (of s) (ok s) (full s) t (in-turn g) (s .args .buffer .now) (f .row-at .result) (o .sum-long2 .result) (l .sum-long .result) (messageHeld (h .in-hand .result)) (c .without .result)
-    (rowsOf fragsMost (r .remove-fragments .last .0)) (r .remove-fragments .last .1 .1 .1 .0) (p .put-bytes .last .0)
-    some (f .row-at .ensures) (o .sum-long2 .ensures) (l .sum-long .ensures) room (h .in-hand .ensures) (c .without .ensures) (r .remove-fragments .ensures .1 .0) (r .remove-fragments .ensures .1 .1) (p .put-bytes .ensures)
+    (rowsOf fragsMost (r .close-fragments .last .0)) (r .close-fragments .last .1 .1 .1 .0) (p .put-bytes .last .0)
+    some (f .row-at .ensures) (o .sum-long2 .ensures) (l .sum-long .ensures) room (h .in-hand .ensures) (c .without .ensures) (r .close-fragments .ensures .0) (r .close-fragments .ensures .1) (p .put-bytes .ensures)
 
 pub take-spec : {M : Type 1} → statement M
 take-spec =
@@ -136,7 +138,7 @@ take-spec =
     (λ c. search needs)
     (λ c. let few = ok (begun (sized (copied (c .before .before .before .before .before .before)))) .few in search needs)
     (λ c. let few = ok (begun (sized (copied (c .before .before .before .before .before .before .before)))) .few in search needs)
-    removes
+    closes
     (λ c κs. search needs)
     counts
     (λ c. search needs)

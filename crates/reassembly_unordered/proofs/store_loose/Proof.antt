@@ -47,11 +47,11 @@ says : (c : tie.After-row-of) → longLength (c .row-of .result .head) ≡ lengt
 unfolding fragmentOf
 says c = ap (λ (r : Row). longLength (r .head)) (made c) ∙ row-size (new (making c)) (small (making c))
 
-abbrev rowed : tie.After-place-tsn → tie.After-row-of
+abbrev rowed : tie.After-walk-back → tie.After-row-of
 rowed c = c .before .before .before
 
-placing : (c : tie.After-place-tsn) → (let s = making (rowed c) in c .place-tsn .result ≡ place (of s) (ok s) (full s) (new s))
-placing c = rw (← (ap (λ (r : Row). r .tsn) (made (rowed c)))) (c .place-tsn .ensures)
+placing : (c : tie.After-walk-back) → (let s = making (rowed c) in c .walk-back .result ≡ place (of s) (ok s) (full s) (new s))
+placing c = rw (← (ap (λ (r : Row). r .tsn) (made (rowed c)))) (c .walk-back .ensures)
 
 stores : tie.Need-returns
 unfolding fragmentOf
@@ -61,7 +61,7 @@ stores c =
     let s = making (rowed t) in
     stored-lay (of s) (ok s) (full s) (new s) (placing t) (holds (rowed t)) (p .put-fragment .ensures .0) (p .put-fragment .ensures .1)
 
-within : (c : tie.After-place-tsn) → c .place-tsn .result ≤ making (rowed c) .args .queue .unordered
+within : (c : tie.After-walk-back) → c .walk-back .result ≤ making (rowed c) .args .queue .unordered
 within c = let s = making (rowed c) in omega (arith, placing c, place-within (of s) (ok s) (full s) (new s))
 
 puts : tie.Need-put-fragment-requires

@@ -11,7 +11,7 @@ use Rattle.table.proofs.sum_short.Statement.{statement}
 use Rattle.table.proofs.sum_short.Tie as tie
 
 abbrev Inv : tie.InvT-loop
-Inv table size from n sum₀ i₀ sum i = (i ≤ n) × (sum ≤ i * 65536) × (sum ≡ total shortLength (take i (drop from (rowsOf size table))))
+Inv table size from n sum₀ i₀ sum i = (i ≤ n) × (sum ≤ i * 65535) × (sum ≡ total shortLength (take i (drop from (rowsOf size table))))
 
 abbrev μ : tie.MeasureT-loop
 μ table size from n sum₀ i₀ sum i = n - i
@@ -35,5 +35,5 @@ turn c =
 pub sum-short-spec : {M : Type 1} → statement M
 sum-short-spec =
     tie.close
-    (tie.spec Inv μ start (λ c. omega arith) (λ c. omega arith) (λ c. omega arith) (λ c κs. tt) (λ c. omega arith) (λ c. omega arith) (λ c. omega arith) turn
+    (tie.spec Inv μ start (λ c. omega arith) (λ c. omega arith) (λ c. omega arith) (λ c κs. tt) (λ c. omega arith) (λ c. omega arith) (λ c. omega arith) turn (λ c. omega arith)
     (λ c. let l = c .before in let e : l .loop .i ≡ l .before .before .args .n = omega arith in rw e at (l .loop .inv .2)))
