@@ -1,6 +1,10 @@
 pub mod Only
 pub mod Told
 pub mod States
+pub mod Codecs
 pub mod Queue
 pub mod Reassembly
 pub mod Hand
+pub mod C
+pub mod CCodecs
+pub mod CQueues

@@ -19,7 +19,7 @@ use Rattle.payload_queue.specs.declared.Pushed.{Pushed}
 use Rattle.payload_queue.specs.declared.Popped.{Popped}
 use Rattle.payload_queue.specs.declared.Dropped.{Dropped}
 use Rattle.payload_queue.specs.declared.Duplicates.{Duplicates}
-use Rattle.one_answer.proofs.Only.{Only, both}
+use Rattle.one_answer.proofs.Only.{Only, named-one, both}
 use Rattle.one_answer.proofs.Told.{flag-one, number-one, taken-one, last-one, done-one, handed-one}
 use Rattle.one_answer.proofs.States.{TsnWords, tsn-struct-one, tsn-words-one}
 
@@ -52,7 +52,7 @@ module _ {A B S : Type 0} (told : A → Told B) (told-one : (b : Told B) → Onl
 -- ── the calls ──
 
 pub queue-new-one : Only (λ (r : PayloadQueue). r ≡ fresh)
-queue-new-one r s p q = p ∙ sym q
+queue-new-one = named-one
 
 module _ (self : PayloadQueue) (table : List ℕ) where
   pub queue-can-push-one : (tsn cumulative : ℕ) → Only (λ (r : Flag). flagTold r ≡ canPush (queueOf self table) tsn cumulative)

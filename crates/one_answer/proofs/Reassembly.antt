@@ -17,7 +17,7 @@ use Rattle.reassembly_queue.specs.declared.ReassemblyQueue.{ReassemblyQueue}
 use Rattle.reassembly_queue.specs.declared.Pushed.{Pushed}
 use Rattle.reassembly_queue.specs.declared.Taken.{Taken}
 use Rattle.reassembly_queue.specs.declared.Forwarded.{Forwarded}
-use Rattle.one_answer.proofs.Only.{Only, both}
+use Rattle.one_answer.proofs.Only.{Only, named-one, both}
 use Rattle.one_answer.proofs.Told.{hand-flag-one, hand-number-one, took-one, rq-done-one}
 use Rattle.one_answer.proofs.States.{FragmentWords, rq-struct-one, rq-words-one, rq-pool-one}
 
@@ -54,7 +54,7 @@ module _ {A B S : Type 0} (told : A → Told B) (told-one : (b : Told B) → Onl
 -- ── the calls ──
 
 pub rq-new-one : (si «max_message_size» : ℕ) → Only (λ (r : ReassemblyQueue). r ≡ fresh si «max_message_size»)
-rq-new-one si «max_message_size» r s p q = p ∙ sym q
+rq-new-one si «max_message_size» = named-one
 
 module _ (self : ReassemblyQueue) (table pool : List ℕ) where
   pub rq-push-one : (chunk : ChunkPayloadData) («user_data» : List ℕ)
