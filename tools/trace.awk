@@ -138,7 +138,7 @@ function read_text(text,    k, parts, i, sep, s, j, owner, listed) {
     if (!listed) flush()
 }
 
-# `codec_checks: DATA read, SACK (P4); queue_checks`: programs; and groups of checks, or the first words of some
+# `checks: DATA read, SACK (P4); replies`: programs; and sections of checks, or the first words of some
 function tests(cell,    k, parts, i, p, g, m, names, j) {
     gsub(/\([^)]*\)/, "", cell)
     k = split(cell, parts, ";")

@@ -1,30 +1,18 @@
 // Reads calls from standard input, does each on the proved libraries, and writes one line for it: docs/CALLS.md.
-mod answer;
-mod codecs;
-mod digest;
-mod forge;
-mod form;
-mod fragments;
-mod hand;
 mod input;
-mod lists;
-mod numbers;
-mod operands;
-mod out;
-mod reports;
-mod shown;
-mod state;
-mod steps;
-mod taken;
-mod tsns;
-mod writers;
 
+use answers::form;
+use answers::operands;
+use answers::operands::BYTES;
+use answers::out;
+use answers::out::LINE;
+use answers::out::SPACE;
+use answers::state;
+use answers::state::POOL;
+use answers::state::State;
 use input::View;
 use input::WINDOW;
-use operands::BYTES;
-use out::SPACE;
-use state::POOL;
-use state::State;
+use libc::STDOUT_FILENO;
 
 fn main() {
     let mut window = [0u8; WINDOW];
@@ -86,16 +74,16 @@ fn size(rest: &[u8]) -> usize {
 fn end(window: &[u8; WINDOW], view: View, number: u64, out: &mut [u8; SPACE], at: usize) {
     let rest = input::rest(window, view);
     if rest.len() == 0 {
-        out::flush(out, at);
+        flush(out, at);
         return;
     }
     let at = out::text(out, at, b"malformed call");
     let at = out::word(out, at, number);
     let at = out::byte(out, at, b'\n');
-    out::flush(out, at);
+    flush(out, at);
 }
 
-// A call, and the end of its line.
+// A call, and room for the next one's line.
 fn answered(
     state: State,
     call: &[u8],
@@ -106,27 +94,21 @@ fn answered(
     buffer: &mut [u8; BYTES],
     spare: &mut [u8; BYTES],
 ) -> State {
-    let state = match operands::u8_at(call, 0) {
-        0..=15 => steps::written(state, steps::codec(call, out, state.at, spare)),
-        16..=31 => steps::tsn_queue(state, call, out, tsns),
-        32..=47 => reassembly(state, call, out, table, pool, buffer, spare),
-        _ => steps::in_hand(state, call, out, buffer, spare),
-    };
-    steps::written(state, out::byte(out, state.at, b'\n'))
+    let state = answers::answered(state, call, out, tsns, table, pool, buffer, spare);
+    roomy(state, out)
 }
 
-fn reassembly(
-    state: State,
-    call: &[u8],
-    out: &mut [u8; SPACE],
-    table: &mut [u32; reassembly_queue::WORDS],
-    pool: &mut [u8; POOL],
-    buffer: &mut [u8; BYTES],
-    spare: &mut [u8; BYTES],
-) -> State {
-    match operands::u8_at(call, 0) {
-        35 => steps::read(state, call, out, table, pool, buffer),
-        33..=38 => steps::reassembly(state, call, out, table, pool, spare),
-        _ => steps::unlent(state, call, out, table, pool),
+// Where little room is left, what was answered is written out.
+fn roomy(state: State, out: &[u8; SPACE]) -> State {
+    if state.at <= SPACE - LINE {
+        return state;
     }
+    flush(out, state.at);
+    let mut state = state;
+    state.at = 0;
+    state
+}
+
+fn flush(out: &[u8; SPACE], at: usize) {
+    io::write_all(STDOUT_FILENO, operands::first(out, at));
 }

@@ -1,0 +1,17 @@
+-- `checks::text::number` is safe, and ends: the measure is what is left of the digits. Assumes nothing.
+use Prim.Native.Nat.{_-_}
+use lib.ListN.{length}
+use borrow.Author.Needs.{needs}
+use Rattle.checks.proofs.text.number.Statement.{statement}
+use Rattle.checks.proofs.text.number.Tie as tie
+
+abbrev Inv : tie.InvT-loop
+Inv s n₀ i₀ n i = Unit {0}
+
+abbrev μ : tie.MeasureT-loop
+μ s n₀ i₀ n i = length s - i
+
+pub number-spec : {M : Type 1} → statement M
+number-spec =
+    tie.close
+    (tie.spec Inv μ (λ c. search needs) (λ c. search needs) (λ c κs. search needs) (λ c κs. search needs) (λ c. search needs) (λ c. search needs) (λ c. search needs) (λ c. search needs))
