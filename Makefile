@@ -1,6 +1,6 @@
 # make run: the main job. make test: the gate. Both need only the kit's rt on the PATH.
 # make lib: the library for C and Rust, target/native/libsctp_receive.a and sctp_receive.h. make host-test: it, called from both (gcc, cargo).
-# make compare: the proved program beside the Rust's own code and a model of document 01 (cargo, a C compiler, sctp-proto's files at SCTP_PROTO_SRC).
+# make compare: the proved program beside the Rust's own code and a model of documents 01 and 02 (cargo, a C compiler, sctp-proto's files at SCTP_PROTO_SRC).
 # make compare-record: crates/replies' recorded calls and answers again. make faults: wrong models are found out.
 # make bench: ours and the Rust timed side by side; docs/BENCH.md and docs/bench.svg (cargo, and Debian's librust-bytes-dev and librust-thiserror-dev).
 .PHONY: run test lib host-test compare compare-record faults bench clean

@@ -53,8 +53,12 @@ pub const PIECE: u8 = 19;
 
 pub const QUEUE: u8 = 20;
 
-const WORDS: [u8; 168] =
-    *b"yes     no      done    none    refused number  tsn     header  data    part    wrote   sack    block   chunk   log     blocks  held    whole   message piece   queue   ";
+pub const FORWARD: u8 = 21;
+
+pub const STREAM: u8 = 22;
+
+const WORDS: [u8; 184] =
+    *b"yes     no      done    none    refused number  tsn     header  data    part    wrote   sack    block   chunk   log     blocks  held    whole   message piece   queue   forward stream  ";
 
 // Stands for the flags where an answer has none to show.
 const UNSHOWN: u8 = 255;
@@ -110,7 +114,7 @@ pub fn write_fields(told: Answer, out: &mut [u8; SPACE], at: usize) -> usize {
 
 fn word(w: u8, out: &mut [u8; SPACE], at: usize) -> usize {
     let words = WORDS;
-    let from = 8 * (w % 21) as usize;
+    let from = 8 * (w % 23) as usize;
     out::text(out, at, out::trimmed(&words, from, from + 8))
 }
 

@@ -1,6 +1,7 @@
-// The calls of headers, DATA and SACK that read.
+// The calls of headers, DATA, SACK and FORWARD TSN that read.
 use crate::answer;
 use crate::answer::Answer;
+use crate::forward;
 use crate::operands;
 use crate::out;
 use crate::out::SPACE;
@@ -12,9 +13,10 @@ use chunk_selective_ack::GapAckBlockAt;
 pub fn call(call: &[u8], out: &mut [u8; SPACE], at: usize) -> usize {
     let raw = operands::raw(call);
     match operands::u8_at(call, 0) {
-        7 | 10 | 11 => part(raw, operands::u8_at(call, 0), out, at),
+        7 | 10 | 11 | 54 => part(raw, operands::u8_at(call, 0), out, at),
         12 => answer::write(block_at(raw, index(call)), out, at),
         13 => answer::write(duplicate_at(raw, index(call)), out, at),
+        55 => answer::write(forward::stream_at(raw, index(call)), out, at),
         _ => answer::write(unmarshal(raw, operands::u8_at(call, 0)), out, at),
     }
 }
@@ -39,7 +41,8 @@ fn part_of<'a>(raw: &'a [u8], call: u8, refusal: &mut u8) -> &'a [u8] {
     match call {
         7 => chunk_payload_data::user_data(raw, refusal),
         10 => chunk_selective_ack::gap_ack_blocks(raw, refusal),
-        _ => chunk_selective_ack::duplicate_tsns(raw, refusal),
+        11 => chunk_selective_ack::duplicate_tsns(raw, refusal),
+        _ => chunk_forward_tsn::streams(raw, refusal),
     }
 }
 
@@ -47,6 +50,7 @@ fn unmarshal(raw: &[u8], call: u8) -> Answer {
     match call {
         5 => header(raw),
         6 => data_chunk(raw),
+        53 => forward::unmarshal(raw),
         _ => sack(raw),
     }
 }

@@ -13,6 +13,7 @@ pub fn length(s: &[u8]) -> usize {
         16..=31 => tsn_queue(s, number),
         32..=41 => reassembly(s, number),
         48..=52 => in_hand(s, number),
+        53..=58 => forward(s, number),
         _ => MALFORMED,
     }
 }
@@ -112,6 +113,20 @@ fn in_hand(s: &[u8], number: u8) -> usize {
         52 => within(operands::u8_at(s, 1) as usize, 3, 10),
         _ => 1,
     }
+}
+
+fn forward(s: &[u8], number: u8) -> usize {
+    match number {
+        55 | 58 => after_raw(s, 8),
+        56 => forward_marshal(s),
+        57 => 9,
+        _ => after_raw(s, 0),
+    }
+}
+
+fn forward_marshal(s: &[u8]) -> usize {
+    let streams = shorts(s, 10);
+    within(operands::size_at(s, 1), BYTES, shorts(s, streams))
 }
 
 // A room and a fill.

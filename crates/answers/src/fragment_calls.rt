@@ -1,6 +1,7 @@
 // The calls of the reassembly queue that are lent the pool, as much of it as is lent; without rq_read.
 use crate::answer;
 use crate::answer::Answer;
+use crate::forward;
 use crate::lists;
 use crate::operands;
 use chunks::Flag;
@@ -34,8 +35,9 @@ pub fn call(
 
 fn lent(queue: ReassemblyQueue, call: &[u8], table: &mut [u32; WORDS], pool: &mut [u8]) -> Told {
     match operands::u8_at(call, 0) {
-        36 => forward(queue.forward_tsn_for_ordered(table, pool, operands::u16_at(call, 1))),
-        37 => forward(queue.forward_tsn_for_unordered(table, pool, operands::u32_at(call, 1))),
+        36 => forwarded(queue.forward_tsn_for_ordered(table, pool, operands::u16_at(call, 1))),
+        37 => forwarded(queue.forward_tsn_for_unordered(table, pool, operands::u32_at(call, 1))),
+        58 => forwarded(forward::to_stream(queue, call, table, pool)),
         _ => ask(queue, operands::u8_at(call, 0), table, pool),
     }
 }
@@ -78,7 +80,7 @@ fn push(
     Told { answer, queue }
 }
 
-fn forward(forwarded: Forwarded) -> Told {
+fn forwarded(forwarded: Forwarded) -> Told {
     let told = forwarded.answer;
     let queue = forwarded.queue;
     let answer = match told {

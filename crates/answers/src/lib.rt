@@ -4,6 +4,7 @@ mod codecs;
 mod digest;
 mod forge;
 pub mod form;
+mod forward;
 mod fragment_calls;
 mod hand;
 mod lists;
@@ -35,9 +36,9 @@ pub fn answered(
     spare: &mut [u8; BYTES],
 ) -> State {
     let state = match operands::u8_at(call, 0) {
-        0..=15 => steps::written(state, steps::codec(call, out, state.at, spare)),
-        16..=31 => steps::tsn_queue(state, call, out, tsns),
-        32..=47 => reassembly(state, call, out, table, pool, buffer, spare),
+        0..=15 | 53..=56 => steps::written(state, steps::codec(call, out, state.at, spare)),
+        16..=31 | 57 => steps::tsn_queue(state, call, out, tsns),
+        32..=47 | 58 => reassembly(state, call, out, table, pool, buffer, spare),
         _ => steps::in_hand(state, call, out, buffer, spare),
     };
     steps::written(state, out::byte(out, state.at, b'\n'))
@@ -54,7 +55,7 @@ fn reassembly(
 ) -> State {
     match operands::u8_at(call, 0) {
         35 => steps::read(state, call, out, table, pool, buffer),
-        33..=38 => steps::reassembly(state, call, out, table, pool, spare),
+        33..=38 | 58 => steps::reassembly(state, call, out, table, pool, spare),
         _ => steps::unlent(state, call, out, table, pool),
     }
 }

@@ -23,12 +23,12 @@ use payload_queue::PayloadQueue;
 use reassembly_queue::ReassemblyQueue;
 use reassembly_queue::WORDS;
 
-// ── numbers that wrap, headers, DATA and SACK ──
+// ── numbers that wrap, headers, DATA, SACK and FORWARD TSN ──
 
 pub fn codec(call: &[u8], out: &mut [u8; SPACE], at: usize, lent: &mut [u8]) -> usize {
     match operands::u8_at(call, 0) {
         1..=4 => numbers::call(call, out, at),
-        8 | 14 => marshal(call, out, at, lent),
+        8 | 14 | 56 => marshal(call, out, at, lent),
         _ => codecs::call(call, out, at),
     }
 }

@@ -3,8 +3,10 @@ use crate::answer;
 use crate::answer::Answer;
 use crate::digest;
 use crate::forge;
+use crate::forward;
 use crate::operands;
 use payload_queue::Done;
+use payload_queue::Dropped;
 use payload_queue::Flag;
 use payload_queue::LastTsn;
 use payload_queue::Number;
@@ -24,7 +26,8 @@ pub fn call(queue: PayloadQueue, call: &[u8], table: &mut [u32; WORDS]) -> Told 
         16 | 30 => set(queue, call, table),
         18 => push(queue, call, table),
         19 => pop(queue, operands::u32_at(call, 1), table),
-        20 => pop_up_to(queue, operands::u32_at(call, 1), table),
+        20 => dropped(queue.pop_up_to(table, operands::u32_at(call, 1))),
+        57 => dropped(forward::to_tsns(queue, call, table)),
         _ => ask(queue, call, table),
     }
 }
@@ -62,8 +65,7 @@ fn pop(queue: PayloadQueue, tsn: u32, table: &mut [u32; WORDS]) -> Told {
     Told { answer, queue }
 }
 
-fn pop_up_to(queue: PayloadQueue, tsn: u32, table: &mut [u32; WORDS]) -> Told {
-    let dropped = queue.pop_up_to(table, tsn);
+fn dropped(dropped: Dropped) -> Told {
     let told = dropped.answer;
     let queue = dropped.queue;
     let answer = done(told);

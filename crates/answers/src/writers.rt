@@ -1,7 +1,8 @@
-// The calls that write DATA and SACK into a lent buffer.
+// The calls that write DATA, SACK and FORWARD TSN into a lent buffer.
 use crate::answer;
 use crate::answer::Answer;
 use crate::form;
+use crate::forward;
 use crate::lists;
 use crate::operands;
 use crate::operands::BYTES;
@@ -14,13 +15,14 @@ const FEW: usize = 1024;
 // The buffer is as long as the call says.
 pub fn call(call: &[u8], lent: &mut [u8]) -> Answer {
     lists::fill(lent, operands::u8_at(call, 5));
-    if operands::u8_at(call, 0) == 8 {
-        return data_marshal(call, lent);
+    match operands::u8_at(call, 0) {
+        8 => data_marshal(call, lent),
+        56 => forward::marshal(call, lent),
+        _ => sack_marshal(call, lent),
     }
-    sack_marshal(call, lent)
 }
 
-fn told(written: Marshalled) -> Answer {
+pub fn told(written: Marshalled) -> Answer {
     match written {
         Marshalled::Bytes(n) => answer::one(answer::WROTE, n as u64),
         Marshalled::Refused(k) => answer::refused(k),

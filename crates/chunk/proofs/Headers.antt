@@ -1,4 +1,4 @@
--- A header at the front of lent bytes: what is read of it are its fields; and what chunks of both types share.
+-- A header at the front of lent bytes: what is read of it are its fields; and what chunks of all types share.
 -- Assumes nothing.
 use mathlib.Core.Path.{_≡_, refl, sym, ap, _∙_}
 use mathlib.Core.Bool.{Bool, true, false, _||_, true≢false}
@@ -11,9 +11,10 @@ use lib.Seq.{length-take-le, take-add, drop-at}
 use denote.Ref.{RefT}
 use Rattle.wire.specs.BigEndian.{bigEndian, over}
 use Rattle.wire.specs.Refusal.{Check, none, refuse, first, says}
+use Rattle.wire.specs.Front.{Front}
 use Rattle.wire.proofs.Reading.{Whole, whole-front, shorter, begins-with, refused, accepted, first-refused, first-passed, none-holds}
 use Rattle.chunk.specs.Layout.{Header, header, headerBytes, chunk}
-use Rattle.chunk.specs.Header.{HeaderFront, headerChecks, kindOnly, kindChecks, headerTold, headerRead, Headed, HeadedFits, HeadedFront, headedBytes}
+use Rattle.chunk.specs.Header.{HeaderFront, headerChecks, kindOnly, kindChecks, headerTold, headerRead, Headed, HeadedFits, headedBytes}
 use Rattle.chunk.specs.Part.{Part, partOf}
 use Rattle.chunk.specs.declared.chunk_header.ChunkHeader.{ChunkHeader}
 use Rattle.chunk.specs.declared.chunk_header.Unmarshalled.{Unmarshalled}
@@ -28,15 +29,20 @@ pub header-put : {out : List ℕ} (was : List ℕ) (kind flags size : ℕ) → o
 unfolding headerBytes
 header-put was kind flags size e = e
 
--- what begins with a header and fields begins with the header
-abbrev pub header-front : {A : Type 0} (value : A → List ℕ) (Fits : A → Type 0) {raw : List ℕ} → HeadedFront value Fits raw → HeaderFront raw
-header-front value Fits {raw} f =
-    let h = f .fields .header in
-    record { fields = h; fits = f .fits .header; begins = shorter raw (headerBytes h) (value (f .fields .fields)) 16 4 (omega arith) (header-length h) (f .begins) }
+-- the header, and n bytes of fields behind it, that the lent bytes begin with
+abbrev pub FieldsFront : {A : Type 0} → (A → List ℕ) → (A → Type 0) → ℕ → List ℕ → Type 0
+FieldsFront value Fits n raw = Front (headedBytes value) (HeadedFits Fits) (4 + n) raw
 
--- where 16 bytes are lent, the header and 12 bytes of fields stand there whole
-pub headed-whole : {A : Type 0} (value : A → List ℕ) (Fits : A → Type 0) {raw : List ℕ} (f : HeadedFront value Fits raw) → length (value (f .fields .fields)) ≡ 12 → 16 ≤ length raw → Whole raw (headedBytes value (f .fields)) 16
-headed-whole value Fits f twelve long = record { long = long; sized = simp (length-append, header-length, twelve); begins = f .begins }
+-- what begins with a header and fields begins with the header
+abbrev pub header-front : {A : Type 0} (value : A → List ℕ) (Fits : A → Type 0) (n : ℕ) {raw : List ℕ} → FieldsFront value Fits n raw → HeaderFront raw
+header-front value Fits n {raw} f =
+    let h = f .fields .header in
+    record { fields = h; fits = f .fits .header; begins = shorter raw (headerBytes h) (value (f .fields .fields)) (4 + n) 4 (omega arith) (header-length h) (f .begins) }
+
+-- where so many bytes are lent, the header and the fields stand there whole
+pub headed-whole : {A : Type 0} (value : A → List ℕ) (Fits : A → Type 0) (n : ℕ) {raw : List ℕ} (f : FieldsFront value Fits n raw) → length (value (f .fields .fields)) ≡ n → 4 + n ≤ length raw
+    → Whole raw (headedBytes value (f .fields)) (4 + n)
+headed-whole value Fits n f sized long = record { long = long; sized = simp (length-append, header-length, sized); begins = f .begins }
 
 pub header-whole : {raw : List ℕ} (f : HeaderFront raw) → 4 ≤ length raw → Whole raw (headerBytes (f .fields)) 4
 header-whole f long = record { long = long; sized = header-length (f .fields); begins = f .begins }
@@ -103,59 +109,61 @@ pub passed : (kind least short lent : ℕ) (h : Header) → Passed kind least le
 passed kind least short lent h p =
     rw (le-ltb lent 4 (omega (arith, p .four, p .within)), le-ltb (h .size) 4 (p .four), le-ltb lent (h .size) (p .within), eq-eqb (h .kind) kind (p .same), le-ltb (h .size) least (p .enough))
 
--- ── a chunk with 12 bytes of fields ──
+-- ── a chunk with n bytes of fields ──
 
 -- it is its header, its fields, and what lies behind them
-pub chunk-parts : (kind flags : ℕ) (value more : List ℕ) → length value ≡ 12 → (headerBytes (header kind flags (16 + length more)) ++ value) ++ more ≡ chunk kind flags (value ++ more)
-chunk-parts kind flags value more twelve =
-    let size : 4 + length (value ++ more) ≡ 16 + length more = rw length-append (omega arith) in
+pub chunk-parts : (kind flags n : ℕ) (value more : List ℕ) → length value ≡ n → (headerBytes (header kind flags (4 + n + length more)) ++ value) ++ more ≡ chunk kind flags (value ++ more)
+chunk-parts kind flags n value more sized =
+    let size : 4 + length (value ++ more) ≡ 4 + n + length more = rw length-append (omega arith) in
     rw (append-assoc, size)
 
 -- what passes is, up to its length, the chunk of the fields in front and of what lies behind them
-pub headed-accepted : {A : Type 0} (value : A → List ℕ) (Fits : A → Type 0) (kind : ℕ) {raw : List ℕ} (f : HeadedFront value Fits raw) → length (value (f .fields .fields)) ≡ 12 → Passed kind 16 (length raw) (f .fields .header)
-    → take (f .fields .header .size) raw ≡ chunk kind (f .fields .header .flags) (value (f .fields .fields) ++ take (f .fields .header .size - 16) (drop 16 raw))
-headed-accepted value Fits kind {raw} f twelve p =
+pub headed-accepted : {A : Type 0} (value : A → List ℕ) (Fits : A → Type 0) (kind n : ℕ) {raw : List ℕ} (f : FieldsFront value Fits n raw) → length (value (f .fields .fields)) ≡ n
+    → Passed kind (4 + n) (length raw) (f .fields .header)
+    → take (f .fields .header .size) raw ≡ chunk kind (f .fields .header .flags) (value (f .fields .fields) ++ take (f .fields .header .size - (4 + n)) (drop (4 + n) raw))
+headed-accepted value Fits kind n {raw} f sized p =
     let h = f .fields .header in
     let v = value (f .fields .fields) in
-    let more = take (h .size - 16) (drop 16 raw) in
-    let front : take 16 raw ≡ headerBytes h ++ v = whole-front (headed-whole value Fits f twelve (omega (arith, p .enough, p .within))) in
-    let long : h .size ≡ 16 + (h .size - 16) = omega (arith, p .enough) in
-    let size : length more ≡ h .size - 16 = length-take-le (h .size - 16) (drop 16 raw) (rw length-drop (omega (arith, p .within))) in
-    let head : headerBytes h ≡ headerBytes (header kind (h .flags) (16 + length more)) =
+    let left = h .size - (4 + n) in
+    let more = take left (drop (4 + n) raw) in
+    let front : take (4 + n) raw ≡ headerBytes h ++ v = whole-front (headed-whole value Fits n f sized (omega (arith, p .enough, p .within))) in
+    let long : h .size ≡ 4 + n + left = omega (arith, p .enough) in
+    let size : length more ≡ left = length-take-le left (drop (4 + n) raw) (rw length-drop (omega (arith, p .within))) in
+    let head : headerBytes h ≡ headerBytes (header kind (h .flags) (4 + n + length more)) =
     ap (λ (k : ℕ). headerBytes (header k (h .flags) (h .size))) (p .same) ∙ ap (λ (k : ℕ). headerBytes (header kind (h .flags) k)) (omega arith) in
-    ap (λ (k : ℕ). take k raw) long ∙ take-add 16 (h .size - 16) raw ∙ ap (λ (x : List ℕ). x ++ more) (front ∙ ap (λ (x : List ℕ). x ++ v) head) ∙ chunk-parts kind (h .flags) v more twelve
+    ap (λ (k : ℕ). take k raw) long ∙ take-add (4 + n) left raw ∙ ap (λ (x : List ℕ). x ++ more) (front ∙ ap (λ (x : List ℕ). x ++ v) head) ∙ chunk-parts kind (h .flags) n v more sized
 
 -- such a chunk, whatever follows it
-module _ {A : Type 0} (value : A → List ℕ) (kind flags : ℕ) (a : A) (more rest : List ℕ) (twelve : length (value a) ≡ 12) where
+module _ {A : Type 0} (value : A → List ℕ) (kind flags n : ℕ) (a : A) (more rest : List ℕ) (sized : length (value a) ≡ n) where
   abbrev bytes : List ℕ
   bytes = chunk kind flags (value a ++ more) ++ rest
 
   abbrev head : Headed A
-  head = record { header = header kind flags (16 + length more); fields = a }
+  head = record { header = header kind flags (4 + n + length more); fields = a }
 
-  sized : length (headedBytes value head) ≡ 16
-  sized = simp (length-append, header-length, twelve)
+  head-size : length (headedBytes value head) ≡ 4 + n
+  head-size = simp (length-append, header-length, sized)
 
   parts : bytes ≡ headedBytes value head ++ (more ++ rest)
-  parts = ap (λ (x : List ℕ). x ++ rest) (sym (chunk-parts kind flags (value a) more twelve)) ∙ append-assoc (headedBytes value head) more rest
+  parts = ap (λ (x : List ℕ). x ++ rest) (sym (chunk-parts kind flags n (value a) more sized)) ∙ append-assoc (headedBytes value head) more rest
 
   -- it begins with its header and its fields
-  pub chunk-begins : take 16 bytes ≡ take (length bytes) (headedBytes value head)
-  chunk-begins = rw parts (begins-with (headedBytes value head) (more ++ rest) 16 sized)
+  pub chunk-begins : take (4 + n) bytes ≡ take (length bytes) (headedBytes value head)
+  chunk-begins = rw parts (begins-with (headedBytes value head) (more ++ rest) (4 + n) head-size)
 
   -- so they are the fields in front
-  abbrev pub chunk-front : {Fits : A → Type 0} → HeadedFits Fits head → HeadedFront value Fits bytes
+  abbrev pub chunk-front : {Fits : A → Type 0} → HeadedFits Fits head → FieldsFront value Fits n bytes
   chunk-front fits = record { fields = head; fits = fits; begins = chunk-begins }
 
   -- and the rest of it lies behind them
-  pub chunk-behind : drop 16 bytes ≡ more ++ rest
-  chunk-behind = rw parts (drop-at (headedBytes value head) (more ++ rest) 16 sized)
+  pub chunk-behind : drop (4 + n) bytes ≡ more ++ rest
+  chunk-behind = rw parts (drop-at (headedBytes value head) (more ++ rest) (4 + n) head-size)
 
   -- no check of its type refuses it
-  pub chunk-passes : (short : ℕ) → first (kindChecks kind 16 short (length bytes) (head .header)) ≡ none
+  pub chunk-passes : (short : ℕ) → first (kindChecks kind (4 + n) short (length bytes) (head .header)) ≡ none
   chunk-passes short =
-      let long : 16 + length more ≤ length bytes = simp (length-append, header-length, twelve) (omega arith) in
-      passed kind 16 short (length bytes) (head .header) (record { same = refl; four = omega arith; enough = omega arith; within = long })
+      let long : 4 + n + length more ≤ length bytes = simp (length-append, header-length, sized) (omega arith) in
+      passed kind (4 + n) short (length bytes) (head .header) (record { same = refl; four = omega arith; enough = omega arith; within = long })
 
 -- ── a part of a chunk ──
 

@@ -21,4 +21,4 @@ module _ (flags : ℕ) (d : Data) (user : List ℕ) where
 
   -- it is its header, its fields and its user data
   pub data-chunk-parts : (headerBytes (header 0 flags (16 + length user)) ++ dataValue d) ++ user ≡ dataChunk flags d user
-  data-chunk-parts = chunk-parts 0 flags (dataValue d) user (data-value-length d)
+  data-chunk-parts = chunk-parts 0 flags 12 (dataValue d) user (data-value-length d)

@@ -1,13 +1,12 @@
 -- The bytes of a SACK chunk: their number, and how its lists are put together; and what a reader's answer says of the checks.
 -- Assumes nothing.
 use mathlib.Core.Path.{_≡_, refl}
-use mathlib.Core.List.{List, [], _∷_, _++_, append-assoc, append-nil}
-use Prim.Native.Nat.{ℕ, zero, suc, _+_, _*_, _<_, _≤_}
-use native.Mathlib.Numerals.{add-one}
+use mathlib.Core.List.{List, [], _++_, append-assoc, append-nil}
+use Prim.Native.Nat.{ℕ, _+_, _*_}
 use native.Mathlib.Omega.{arith}
-use lib.ListN.{length, getD, take, length-append}
-use lib.Seq.{length-take-le}
+use lib.ListN.{length, length-append}
 use Rattle.wire.specs.BigEndian.{bigEndian}
+use Rattle.wire.specs.Facts.{big-endian-length}
 use Rattle.wire.specs.Refusal.{none, refuse, first}
 use Rattle.wire.proofs.Reading.{refused, accepted}
 use Rattle.chunk.specs.Layout.{header, headerBytes}
@@ -18,6 +17,7 @@ use Rattle.chunk_selective_ack.specs.declared.ChunkSelectiveAck.{ChunkSe
 use Rattle.chunk_selective_ack.specs.declared.Unmarshalled.{Unmarshalled}
 use Rattle.chunk_selective_ack.specs.declared.Unmarshalled.the-variants as answers
 use Rattle.chunk.proofs.Headers.{header-length}
+use Rattle.chunk.proofs.Entries.{Entries, entries-length}
 
 module _ (lent : ℕ) (h : Headed Sack) (r : Unmarshalled) (t : sackTold r ≡ sackRead lent h) where
   pub sack-refused : {k : ℕ} → r ≡ answers.Refused k → first (sackChecks lent h) ≡ refuse k
@@ -34,47 +34,13 @@ pub block-length : (b : Block) → length (blockBytes b) ≡ 4
 unfolding bigEndian blockBytes
 block-length b = refl
 
-more-blocks : (starts ends : List ℕ) (i : ℕ) → i < length starts → i < length ends
-    → gapBlocks (take (suc i) starts) (take (suc i) ends) ≡ gapBlocks (take i starts) (take i ends) ++ blockBytes (block (getD starts i 0) (getD ends i 0))
+pub block-entries : Entries (λ (s e : ℕ). blockBytes (block s e)) gapBlocks
 unfolding gapBlocks
-more-blocks [] ends i h k = absurd (omega arith)
-more-blocks (s ∷ starts) [] i h k = absurd (omega arith)
-more-blocks (s ∷ starts) (e ∷ ends) zero h k = append-nil (blockBytes (block s e))
-more-blocks (s ∷ starts) (e ∷ ends) (suc i) h k = rw (more-blocks starts ends i (omega arith) (omega arith), append-assoc)
+block-entries = record { none = λ ends. refl; more = λ s e starts ends. refl; wide = λ s e. block-length (block s e) }
 
-pub blocks-more : (starts ends : List ℕ) (i : ℕ) → i < length starts → i < length ends
-    → gapBlocks (take (i + 1) starts) (take (i + 1) ends) ≡ gapBlocks (take i starts) (take i ends) ++ blockBytes (block (getD starts i 0) (getD ends i 0))
-blocks-more starts ends i h k = rw add-one (more-blocks starts ends i h k)
-
-pub blocks-length : (starts ends : List ℕ) → length starts ≡ length ends → length (gapBlocks starts ends) ≡ 4 * length starts
-unfolding gapBlocks blockBytes bigEndian
-blocks-length [] ends e = refl
-blocks-length (s ∷ starts) [] e = absurd (omega arith)
-blocks-length (s ∷ starts) (x ∷ ends) e = omega (arith, blocks-length starts ends (omega arith))
-
-more-tsns : (tsns : List ℕ) (i : ℕ) → i < length tsns → duplicateTsns (take (suc i) tsns) ≡ duplicateTsns (take i tsns) ++ bigEndian 4 (getD tsns i 0)
+pub tsn-entries : Entries (λ (t u : ℕ). bigEndian 4 t) (λ (ts us : List ℕ). duplicateTsns ts)
 unfolding duplicateTsns
-more-tsns [] i h = absurd (omega arith)
-more-tsns (t ∷ tsns) zero h = append-nil (bigEndian 4 t)
-more-tsns (t ∷ tsns) (suc i) h = rw (more-tsns tsns i (omega arith), append-assoc)
-
-pub tsns-more : (tsns : List ℕ) (i : ℕ) → i < length tsns → duplicateTsns (take (i + 1) tsns) ≡ duplicateTsns (take i tsns) ++ bigEndian 4 (getD tsns i 0)
-tsns-more tsns i h = rw add-one (more-tsns tsns i h)
-
--- the bytes of the first i entries
-pub blocks-taken : (starts ends : List ℕ) → length starts ≡ length ends → (i : ℕ) → i ≤ length starts → length (gapBlocks (take i starts) (take i ends)) ≡ 4 * i
-blocks-taken starts ends e i h =
-    let s = length-take-le i starts h in
-    let t = length-take-le i ends (omega arith) in
-    omega (arith, blocks-length (take i starts) (take i ends) (omega arith))
-
-pub tsns-length : (tsns : List ℕ) → length (duplicateTsns tsns) ≡ 4 * length tsns
-unfolding duplicateTsns bigEndian
-tsns-length [] = refl
-tsns-length (t ∷ tsns) = omega (arith, tsns-length tsns)
-
-pub tsns-taken : (tsns : List ℕ) (i : ℕ) → i ≤ length tsns → length (duplicateTsns (take i tsns)) ≡ 4 * i
-tsns-taken tsns i h = let s = length-take-le i tsns h in omega (arith, tsns-length (take i tsns))
+tsn-entries = record { none = λ us. refl; more = λ t u ts us. refl; wide = λ t u. big-endian-length 4 t }
 
 -- ── the chunk ──
 
@@ -84,7 +50,7 @@ sack-value-length s = refl
 
 pub lists-length : (starts ends duplicates more : List ℕ) → length starts ≡ length ends
     → length (gapBlocks starts ends ++ (duplicateTsns duplicates ++ more)) ≡ 4 * length starts + 4 * length duplicates + length more
-lists-length starts ends duplicates more same = simp length-append (omega (arith, blocks-length starts ends same, tsns-length duplicates))
+lists-length starts ends duplicates more same = simp length-append (omega (arith, entries-length block-entries starts ends same, entries-length tsn-entries duplicates duplicates refl))
 
 module _ (cumulative window : ℕ) (starts ends duplicates : List ℕ) (same : length starts ≡ length ends) where
   abbrev fields : Sack

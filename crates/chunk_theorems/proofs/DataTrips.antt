@@ -27,7 +27,7 @@ use Rattle.chunk_theorems.proofs.OneAnswer.{data-told-one, name-of-numb
 
 pub data-accepted : (raw : List ℕ) (f : DataFront raw) → first (dataChecks (length raw) (f .fields .header)) ≡ none
     → take (f .fields .header .size) raw ≡ dataChunk (f .fields .header .flags) (f .fields .fields) (take (f .fields .header .size - 16) (drop 16 raw))
-data-accepted raw f e = headed-accepted dataValue DataFits 0 f (data-value-length (f .fields .fields)) (passes 0 16 4 (length raw) (f .fields .header) e)
+data-accepted raw f e = headed-accepted dataValue DataFits 0 12 f (data-value-length (f .fields .fields)) (passes 0 16 4 (length raw) (f .fields .header) e)
 
 -- ── what is a DATA chunk of some fields and user data, whatever follows, is accepted with them ──
 
@@ -49,11 +49,11 @@ module _ (flags : ℕ) (d : Data) (user rest : List ℕ) (s : Sendable flags d u
 
   -- the fields in front of it are its own
   abbrev pub data-front : DataFront bytes
-  data-front = chunk-front dataValue 0 flags d user rest (data-value-length d) fits
+  data-front = chunk-front dataValue 0 flags 12 d user rest (data-value-length d) fits
 
   -- nothing is refused
   pub data-passes : first (dataChecks (length bytes) (head .header)) ≡ none
-  data-passes = chunk-passes dataValue 0 flags d user rest (data-value-length d) 4
+  data-passes = chunk-passes dataValue 0 flags 12 d user rest (data-value-length d) 4
 
   -- so what meets the promise of `unmarshal` has its fields
   pub data-read-back : (r : «data».Unmarshalled) → ((f : DataFront bytes) → dataTold r ≡ dataRead (length bytes) (f .fields)) → dataTold r ≡ says none (dataShown flags d)
@@ -65,11 +65,11 @@ pub user-data-back : (flags : ℕ) (d : Data) (user rest : List ℕ) → Sendabl
     → {p : Part} → ((f : HeaderFront (raw .now)) → p ≡ userData raw (f .fields)) → (p .refusal ≡ 255) × (p .bytes ≡ user)
 unfolding userData
 user-data-back flags d user rest s raw e {p} promise =
-    let f = header-front dataValue DataFits (data-front flags d user rest s) in
+    let f = header-front dataValue DataFits 12 (data-front flags d user rest s) in
     let g : HeaderFront (raw .now) = record { fields = f .fields; fits = f .fits; begins = rw e (f .begins) } in
     let q = part-back (λ (lent : ℕ). dataChecks lent (f .fields)) 16 (16 + length user - 16) raw e (data-passes flags d user rest s) (promise g) in
     let cut : 16 + length user - 16 ≡ length user = omega arith in
-    (q .0, q .1 ∙ rw (cut, chunk-behind dataValue 0 flags d user rest (data-value-length d)) (take-at user rest (length user) refl))
+    (q .0, q .1 ∙ rw (cut, chunk-behind dataValue 0 flags 12 d user rest (data-value-length d)) (take-at user rest (length user) refl))
 
 -- ── reading what was written gives the fields ──
 

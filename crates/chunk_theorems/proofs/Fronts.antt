@@ -13,12 +13,15 @@ use Rattle.wire.proofs.Exists.{Bytes, Piece, piece, cut, bytes-drop, padded, pa
 use Rattle.chunk.specs.Layout.{header, HeaderFits, headerBytes}
 use Rattle.chunk_payload_data.specs.Layout.{DataFits, dataValue}
 use Rattle.chunk_selective_ack.specs.Layout.{sack, SackFits, sackValue, block, blockBytes}
-use Rattle.chunk.specs.Header.{HeaderFront, HeadedFits, headedBytes, HeadedFront}
+use Rattle.chunk_forward_tsn.specs.Layout.{pair, pairBytes}
+use Rattle.chunk.specs.Header.{HeaderFront, HeadedFits, headedBytes}
 use Rattle.chunk_payload_data.specs.Data.{DataFront}
 use Rattle.chunk_selective_ack.specs.Sack.{SackFront, BlockFits, BlockFront, TsnFront}
-use Rattle.chunk.proofs.Headers.{header-length}
+use Rattle.chunk_forward_tsn.specs.ForwardTsn.{Word, ForwardFront, PairFits, PairFront}
+use Rattle.chunk.proofs.Headers.{header-length, FieldsFront}
 use Rattle.chunk_payload_data.proofs.DataBytes.{data-value-length}
 use Rattle.chunk_selective_ack.proofs.SackBytes.{block-length, sack-value-length}
+use Rattle.chunk_forward_tsn.proofs.ForwardBytes.{pair-length}
 
 -- fields whose layout is the first n bytes
 record Laid {A : Type 0} (layout : A → List ℕ) (Fits : A → Type 0) (n : ℕ) (raw : List ℕ) : Type 0 where
@@ -83,41 +86,51 @@ sack-laid raw by h =
       is = f .4;
     }
 
-headed-laid : {A : Type 0} (value : A → List ℕ) (Fits : A → Type 0) → ((raw : List ℕ) → Bytes raw → 12 ≤ length raw → Laid value Fits 12 raw)
-    → (raw : List ℕ) → Bytes raw → 16 ≤ length raw → Laid (headedBytes value) (HeadedFits Fits) 16 raw
-headed-laid value Fits some raw by h =
+headed-laid : {A : Type 0} (value : A → List ℕ) (Fits : A → Type 0) (n : ℕ) → ((raw : List ℕ) → Bytes raw → n ≤ length raw → Laid value Fits n raw)
+    → (raw : List ℕ) → Bytes raw → 4 + n ≤ length raw → Laid (headedBytes value) (HeadedFits Fits) (4 + n) raw
+headed-laid value Fits n some raw by h =
     let p = header-laid raw by (omega arith) in
     let q = some (drop 4 raw) (bytes-drop raw 4 by) (rw length-drop (omega arith)) in
     record {
       fields = record { header = p .fields; fields = q .fields };
       fits = record { header = p .fits; fields = q .fits };
-      is = take-add 4 12 raw ∙ rw (p .is, q .is);
+      is = take-add 4 n raw ∙ rw (p .is, q .is);
     }
 
-headed-some : {A : Type 0} (value : A → List ℕ) (Fits : A → Type 0) → ((a : A) → length (value a) ≡ 12) → ((raw : List ℕ) → Bytes raw → 12 ≤ length raw → Laid value Fits 12 raw)
-    → (raw : List ℕ) → Bytes raw → HeadedFront value Fits raw
-headed-some value Fits twelve some raw by =
-    laid-front raw (λ a. simp (length-append, header-length, twelve)) (headed-laid value Fits some (padded 16 raw) (padded-bytes 16 raw by) (padded-long 16 raw))
+headed-some : {A : Type 0} (value : A → List ℕ) (Fits : A → Type 0) (n : ℕ) → ((a : A) → length (value a) ≡ n) → ((raw : List ℕ) → Bytes raw → n ≤ length raw → Laid value Fits n raw)
+    → (raw : List ℕ) → Bytes raw → FieldsFront value Fits n raw
+headed-some value Fits n sized some raw by =
+    laid-front raw (λ a. simp (length-append, header-length, sized)) (headed-laid value Fits n some (padded (4 + n) raw) (padded-bytes (4 + n) raw by) (padded-long (4 + n) raw))
 
--- ── a header, DATA fields, SACK fields stand at the front of any bytes ──
+-- ── a header and the fields of each kind stand at the front of any bytes ──
 
 pub header-some : (raw : List ℕ) → Bytes raw → HeaderFront raw
 header-some raw by = laid-front raw header-length (header-laid (padded 4 raw) (padded-bytes 4 raw by) (padded-long 4 raw))
 
 pub data-some : (raw : List ℕ) → Bytes raw → DataFront raw
-data-some raw by = headed-some dataValue DataFits data-value-length data-laid raw by
+data-some raw by = headed-some dataValue DataFits 12 data-value-length data-laid raw by
 
 pub sack-some : (raw : List ℕ) → Bytes raw → SackFront raw
-sack-some raw by = headed-some sackValue SackFits sack-value-length sack-laid raw by
+sack-some raw by = headed-some sackValue SackFits 12 sack-value-length sack-laid raw by
 
--- ── a block and a TSN stand at every index of any part ──
+word-laid : (raw : List ℕ) → Bytes raw → 4 ≤ length raw → Laid (bigEndian 4) Word 4 raw
+word-laid raw by h = let p = piece raw by 4 h in record { fields = p .value; fits = p .fits; is = p .is }
+
+pub forward-some : (raw : List ℕ) → Bytes raw → ForwardFront raw
+forward-some raw by = headed-some (bigEndian 4) Word 4 (big-endian-length 4) word-laid raw by
+
+-- ── a block, a TSN and a pair stand at every index of any part ──
+
+-- two numbers of 2 bytes stand in 4 bytes
+pub two : (raw : List ℕ) → Bytes raw → 4 ≤ length raw → (p : Piece raw 2) × (q : Piece (drop 2 raw) 2) × (take 4 raw ≡ bigEndian 2 (p .value) ++ bigEndian 2 (q .value))
+two raw by h =
+    let p = piece raw by 2 (omega arith) in
+    let q = piece (drop 2 raw) (bytes-drop raw 2 by) 2 (rw length-drop (omega arith)) in
+    (p, q, cut raw 2 2 p (q .is))
 
 block-laid : (raw : List ℕ) → Bytes raw → 4 ≤ length raw → Laid blockBytes BlockFits 4 raw
 unfolding blockBytes
-block-laid raw by h =
-    let p = piece raw by 2 (omega arith) in
-    let q = piece (drop 2 raw) (bytes-drop raw 2 by) 2 (rw length-drop (omega arith)) in
-    record { fields = block (p .value) (q .value); fits = record { start = p .fits; end = q .fits }; is = cut raw 2 2 p (q .is) }
+block-laid raw by h = let (p, q, is) = two raw by h in record { fields = block (p .value) (q .value); fits = record { start = p .fits; end = q .fits }; is = is }
 
 pub block-some : (part : List ℕ) (i : ℕ) → Bytes part → BlockFront part i
 block-some part i by =
@@ -127,5 +140,13 @@ block-some part i by =
 pub tsn-some : (part : List ℕ) (i : ℕ) → Bytes part → TsnFront part i
 tsn-some part i by =
     let raw = drop (4 * i) part in
-    let p = piece (padded 4 raw) (padded-bytes 4 raw (bytes-drop part (4 * i) by)) 4 (padded-long 4 raw) in
-    laid-front raw (big-endian-length 4) (record { fields = p .value; fits = p .fits; is = p .is })
+    laid-front raw (big-endian-length 4) (word-laid (padded 4 raw) (padded-bytes 4 raw (bytes-drop part (4 * i) by)) (padded-long 4 raw))
+
+pair-laid : (raw : List ℕ) → Bytes raw → 4 ≤ length raw → Laid pairBytes PairFits 4 raw
+unfolding pairBytes
+pair-laid raw by h = let (p, q, is) = two raw by h in record { fields = pair (p .value) (q .value); fits = record { stream = p .fits; ssn = q .fits }; is = is }
+
+pub pair-some : (part : List ℕ) (i : ℕ) → Bytes part → PairFront part i
+pair-some part i by =
+    let raw = drop (4 * i) part in
+    laid-front raw pair-length (pair-laid (padded 4 raw) (padded-bytes 4 raw (bytes-drop part (4 * i) by)) (padded-long 4 raw))

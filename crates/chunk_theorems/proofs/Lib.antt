@@ -2,3 +2,4 @@ pub mod Fronts
 pub mod OneAnswer
 pub mod DataTrips
 pub mod SackTrips
+pub mod ForwardTrips

@@ -13,6 +13,8 @@ use Rattle.chunk.specs.Header.{HeaderFront, headerChecks, kindChecks, headerTol
 use Rattle.chunk.specs.Part.{Part}
 use Rattle.chunk_payload_data.specs.Data.{identifierNumber, identifierName, DataValues, dataHeld, dataTold, DataFront, dataRead, userData}
 use Rattle.chunk_selective_ack.specs.Sack.{sackHeld, sackTold, SackFront, sackRead, blocksPart, duplicatesPart, BlockFront, blockTold, blockRead, TsnFront, tsnTold, tsnRead}
+use Rattle.chunk_forward_tsn.specs.Layout.{Pair}
+use Rattle.chunk_forward_tsn.specs.ForwardTsn.{Forward, forwardTold, ForwardFront, forwardRead, pairsPart, PairFront, pairTold, pairRead}
 use Rattle.chunk.specs.Marshal.{marshalTold}
 use Rattle.chunk.specs.declared.chunk_header.Unmarshalled as head
 use Rattle.chunk.specs.declared.chunk_header.Unmarshalled.the-variants as head-is
@@ -27,9 +29,13 @@ use Rattle.chunk_selective_ack.specs.declared.GapAckBlockAt as block
 use Rattle.chunk_selective_ack.specs.declared.GapAckBlockAt.the-variants as block-is
 use Rattle.chunk_selective_ack.specs.declared.DuplicateTsnAt as tsn
 use Rattle.chunk_selective_ack.specs.declared.DuplicateTsnAt.the-variants as tsn-is
+use Rattle.chunk_forward_tsn.specs.declared.Unmarshalled as forward
+use Rattle.chunk_forward_tsn.specs.declared.Unmarshalled.the-variants as forward-is
+use Rattle.chunk_forward_tsn.specs.declared.StreamAt as stream
+use Rattle.chunk_forward_tsn.specs.declared.StreamAt.the-variants as stream-is
 use Rattle.chunk.specs.declared.Marshalled.{Marshalled}
 use Rattle.chunk.specs.declared.Marshalled.the-variants as bytes-is
-use Rattle.chunk_theorems.proofs.Fronts.{header-some, data-some, sack-some, block-some, tsn-some}
+use Rattle.chunk_theorems.proofs.Fronts.{header-some, data-some, sack-some, block-some, tsn-some, forward-some, pair-some}
 
 -- the general lemma: a promise that fixes what an answer tells fixes the answer, if what it tells can be taken back
 pub one-answer : {A B : Type 0} (tells : A → B) (back : B → A) → ((a : A) → back (tells a) ≡ a) → {r s : A} {b : B} → tells r ≡ b → tells s ≡ b → r ≡ s
@@ -126,6 +132,33 @@ unfolding tsn-back
 tsn-inverse (tsn-is.Tsn t) = refl
 tsn-inverse (tsn-is.Refused k) = refl
 
+forward-back : Told Forward → forward.Unmarshalled
+forward-back t = go (t .refusal)
+  where
+    go : Refusal → forward.Unmarshalled
+    go none = forward-is.Fields (record { «new_cumulative_tsn» = t .values .point; streams = t .values .pairs })
+    go (refuse k) = forward-is.Refused k
+
+forward-inverse : (r : forward.Unmarshalled) → forward-back (forwardTold r) ≡ r
+unfolding forward-back
+forward-inverse (forward-is.Fields f) = refl
+forward-inverse (forward-is.Refused k) = refl
+
+pub forward-told-one : {r s : forward.Unmarshalled} → forwardTold r ≡ forwardTold s → r ≡ s
+forward-told-one e = one-answer forwardTold forward-back forward-inverse e refl
+
+pair-back : Told Pair → stream.StreamAt
+pair-back t = go (t .refusal)
+  where
+    go : Refusal → stream.StreamAt
+    go none = stream-is.Stream (record { identifier = t .values .stream; sequence = t .values .ssn })
+    go (refuse k) = stream-is.Refused k
+
+pair-inverse : (r : stream.StreamAt) → pair-back (pairTold r) ≡ r
+unfolding pair-back
+pair-inverse (stream-is.Stream s) = refl
+pair-inverse (stream-is.Refused k) = refl
+
 marshal-back : Told ℕ → Marshalled
 marshal-back t = go (t .refusal)
   where
@@ -167,6 +200,14 @@ module _ (raw : List ℕ) (by : Bytes raw) where
       → ((f : TsnFront raw i) → tsnTold r ≡ tsnRead raw i (f .fields)) → ((f : TsnFront raw i) → tsnTold s ≡ tsnRead raw i (f .fields)) → r ≡ s
   tsn-one i p q = let f = tsn-some raw i by in one-answer tsnTold tsn-back tsn-inverse (p f) (q f)
 
+  pub forward-one : {r s : forward.Unmarshalled}
+      → ((f : ForwardFront raw) → forwardTold r ≡ forwardRead (length raw) (f .fields)) → ((f : ForwardFront raw) → forwardTold s ≡ forwardRead (length raw) (f .fields)) → r ≡ s
+  forward-one p q = let f = forward-some raw by in one-answer forwardTold forward-back forward-inverse (p f) (q f)
+
+  pub pair-one : (i : ℕ) {r s : stream.StreamAt}
+      → ((f : PairFront raw i) → pairTold r ≡ pairRead raw i (f .fields)) → ((f : PairFront raw i) → pairTold s ≡ pairRead raw i (f .fields)) → r ≡ s
+  pair-one i p q = let f = pair-some raw i by in one-answer pairTold pair-back pair-inverse (p f) (q f)
+
 -- ── the parts: refusal, bytes and place ──
 
 module _ (raw : RefT (List ℕ)) (by : Bytes (raw .now)) {p q : Part} where
@@ -178,6 +219,9 @@ module _ (raw : RefT (List ℕ)) (by : Bytes (raw .now)) {p q : Part} where
 
   pub duplicates-part-one : ((f : SackFront (raw .now)) → p ≡ duplicatesPart raw (f .fields)) → ((f : SackFront (raw .now)) → q ≡ duplicatesPart raw (f .fields)) → p ≡ q
   duplicates-part-one a b = let f = sack-some (raw .now) by in a f ∙ sym (b f)
+
+  pub pairs-part-one : ((f : HeaderFront (raw .now)) → p ≡ pairsPart raw (f .fields)) → ((f : HeaderFront (raw .now)) → q ≡ pairsPart raw (f .fields)) → p ≡ q
+  pairs-part-one a b = let f = header-some (raw .now) by in a f ∙ sym (b f)
 
 -- ── the writers: the answer and the buffer ──
 

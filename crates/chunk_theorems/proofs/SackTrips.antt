@@ -1,18 +1,17 @@
 -- SACK both ways: what is accepted is a chunk of the fields that come back, what is such a chunk is accepted, and the round trips.
 -- Assumes nothing.
 use mathlib.Core.Path.{_≡_, refl, sym, ap, _∙_}
-use mathlib.Core.List.{List, [], _∷_, _++_, append-assoc, append-nil}
-use Prim.Native.Nat.{ℕ, zero, suc, _+_, _-_, _*_, _/_, _^_, _<_, _≤_}
+use mathlib.Core.List.{List, [], _++_, append-assoc, append-nil}
+use Prim.Native.Nat.{ℕ, _+_, _-_, _*_, _/_, _^_, _<_, _≤_}
 use native.Mathlib.Omega.{arith}
 use borrow.Author.Tests.{le-ltb, lt-leb, ltb-false}
-use lib.ListN.{length, getD, take, drop, length-drop, take-append-drop}
-use lib.Seq.{length-take-le, take-add, take-all, take-at, drop-at, drop-drop, drop-nil, drop-cons, drop-append-add}
+use lib.ListN.{length, getD, take, drop}
+use lib.Seq.{take-add, take-all, take-at, drop-at, drop-drop}
 use denote.Ref.{RefT}
 use Rattle.wire.specs.BigEndian.{bigEndian}
 use Rattle.wire.specs.Refusal.{none, says, first}
-use Rattle.wire.specs.Facts.{big-endian-length}
-use Rattle.wire.proofs.Reading.{first-passed, none-holds, none-both, begins-with}
-use Rattle.wire.proofs.Exists.{Bytes, piece, cut, bytes-drop}
+use Rattle.wire.proofs.Reading.{first-passed, none-holds, none-both}
+use Rattle.wire.proofs.Exists.{Bytes, piece}
 use Rattle.chunk.specs.Layout.{header, chunk}
 use Rattle.chunk_selective_ack.specs.Layout.{Sack, sack, SackFits, sackValue, block, blockBytes, gapBlocks, duplicateTsns, sackChunk}
 use Rattle.chunk.specs.Header.{kindChecks, Headed, HeadedFits}
@@ -23,7 +22,9 @@ use Rattle.chunk_selective_ack.specs.declared.Unmarshalled.the-variants.{Fields
 use Rattle.chunk_selective_ack.specs.declared.GapAckBlockAt.{GapAckBlockAt}
 use Rattle.chunk_selective_ack.specs.declared.DuplicateTsnAt.{DuplicateTsnAt}
 use Rattle.chunk.proofs.Headers.{passes, headed-accepted, chunk-front, chunk-behind, chunk-passes, part-back}
-use Rattle.chunk_selective_ack.proofs.SackBytes.{block-length, blocks-length, tsns-length, sack-value-length, lists-length}
+use Rattle.chunk.proofs.Entries.{entries-length, entry-begins, entries-exist, entry-bytes}
+use Rattle.chunk_selective_ack.proofs.SackBytes.{block-entries, tsn-entries, sack-value-length, lists-length}
+use Rattle.chunk_theorems.proofs.Fronts.{two}
 use Rattle.chunk_theorems.proofs.OneAnswer.{sack-told-one}
 
 -- ── what is accepted is a SACK chunk of the fields in front and of what lies behind them ──
@@ -41,7 +42,7 @@ sack-accepted raw f e =
     let both = none-both (kindChecks 3 16 5 (length raw) h) (listsOnly (f .fields)) e in
     let p = passes 3 16 5 (length raw) h (both .0) in
     record {
-      is = headed-accepted sackValue SackFits 3 f (sack-value-length (f .fields .fields)) p;
+      is = headed-accepted sackValue SackFits 3 12 f (sack-value-length (f .fields .fields)) p;
       lists = ltb-false _ _ (none-holds (listsOnly (f .fields)) (both .1) .0);
       within = p .within;
     }
@@ -82,12 +83,12 @@ module _ (flags cumulative window : ℕ) (starts ends duplicates more rest : Lis
 
   -- the fields in front of it are its own
   abbrev pub sack-front : SackFront bytes
-  sack-front = chunk-front sackValue 3 flags fields lists rest (sack-value-length fields) fits
+  sack-front = chunk-front sackValue 3 flags 12 fields lists rest (sack-value-length fields) fits
 
   -- nothing is refused
   pub sack-passes : first (sackChecks (length bytes) head) ≡ none
   sack-passes =
-      first-passed (kindChecks 3 16 5 (length bytes) (head .header)) (listsOnly head) (chunk-passes sackValue 3 flags fields lists rest (sack-value-length fields) 5)
+      first-passed (kindChecks 3 16 5 (length bytes) (head .header)) (listsOnly head) (chunk-passes sackValue 3 flags 12 fields lists rest (sack-value-length fields) 5)
       ∙ rw (le-ltb (16 + length lists) (16 + 4 * length starts + 4 * length duplicates) (omega (arith, size)))
 
   -- so what meets the promise of `unmarshal` has its fields
@@ -97,10 +98,10 @@ module _ (flags cumulative window : ℕ) (starts ends duplicates more rest : Lis
 
   -- behind the fields lie the blocks, and behind those the duplicates
   behind : drop 16 bytes ≡ gapBlocks starts ends ++ (duplicateTsns duplicates ++ (more ++ rest))
-  behind = rw (chunk-behind sackValue 3 flags fields lists rest (sack-value-length fields)) (simp append-assoc)
+  behind = rw (chunk-behind sackValue 3 flags 12 fields lists rest (sack-value-length fields)) (simp append-assoc)
 
   further : drop (16 + 4 * length starts) bytes ≡ duplicateTsns duplicates ++ (more ++ rest)
-  further = sym (drop-drop (4 * length starts) 16 bytes) ∙ ap (drop (4 * length starts)) behind ∙ drop-at (gapBlocks starts ends) _ (4 * length starts) (blocks-length starts ends (s .same))
+  further = sym (drop-drop (4 * length starts) 16 bytes) ∙ ap (drop (4 * length starts)) behind ∙ drop-at (gapBlocks starts ends) _ (4 * length starts) (entries-length block-entries starts ends (s .same))
 
   module _ (raw : RefT (List ℕ)) (e : raw .now ≡ bytes) where
     abbrev front : SackFront (raw .now)
@@ -111,33 +112,16 @@ module _ (flags cumulative window : ℕ) (starts ends duplicates more rest : Lis
     unfolding blocksPart
     blocks-part-back promise =
         let q = part-back (λ (lent : ℕ). sackChecks lent head) 16 (4 * length starts) raw e sack-passes (promise front) in
-        (q .0, q .1 ∙ rw behind (take-at (gapBlocks starts ends) _ (4 * length starts) (blocks-length starts ends (s .same))))
+        (q .0, q .1 ∙ rw behind (take-at (gapBlocks starts ends) _ (4 * length starts) (entries-length block-entries starts ends (s .same))))
 
     -- what meets the promise of `duplicate_tsns` has its duplicates
     pub duplicates-part-back : {p : Part} → ((f : SackFront (raw .now)) → p ≡ duplicatesPart raw (f .fields)) → (p .refusal ≡ 255) × (p .bytes ≡ duplicateTsns duplicates)
     unfolding duplicatesPart
     duplicates-part-back promise =
         let q = part-back (λ (lent : ℕ). sackChecks lent head) (16 + 4 * length starts) (4 * length duplicates) raw e sack-passes (promise front) in
-        (q .0, q .1 ∙ rw further (take-at (duplicateTsns duplicates) _ (4 * length duplicates) (tsns-length duplicates)))
+        (q .0, q .1 ∙ rw further (take-at (duplicateTsns duplicates) _ (4 * length duplicates) (entries-length tsn-entries duplicates duplicates refl)))
 
 -- ── an entry of a list is found by its index ──
-
--- 4 bytes on is one entry on
-past : (entry more : List ℕ) (i : ℕ) → length entry ≡ 4 → drop (4 * suc i) (entry ++ more) ≡ drop (4 * i) more
-past entry more i l = let n : 4 * suc i ≡ length entry + 4 * i = omega arith in rw (n, drop-append-add)
-
-blocks-from : (starts ends : List ℕ) (i : ℕ) → length starts ≡ length ends → drop (4 * i) (gapBlocks starts ends) ≡ gapBlocks (drop i starts) (drop i ends)
-unfolding gapBlocks
-blocks-from [] ends i e = simp drop-nil
-blocks-from (s ∷ starts) [] i e = absurd (omega arith)
-blocks-from (s ∷ starts) (x ∷ ends) zero e = refl
-blocks-from (s ∷ starts) (x ∷ ends) (suc i) e = past (blockBytes (block s x)) (gapBlocks starts ends) i (block-length (block s x)) ∙ blocks-from starts ends i (omega arith)
-
-tsns-from : (tsns : List ℕ) (i : ℕ) → drop (4 * i) (duplicateTsns tsns) ≡ duplicateTsns (drop i tsns)
-unfolding duplicateTsns
-tsns-from [] i = simp drop-nil
-tsns-from (t ∷ tsns) zero = refl
-tsns-from (t ∷ tsns) (suc i) = past (bigEndian 4 t) (duplicateTsns tsns) i (big-endian-length 4 t) ∙ tsns-from tsns i
 
 -- an index below the number of entries is not refused
 entry-passes : (part : List ℕ) (i n : ℕ) → length part ≡ 4 * n → i < n → first (entryChecks part i) ≡ none
@@ -146,25 +130,16 @@ entry-passes part i n l h = rw (lt-leb (length part / 4) i (omega arith))
 -- what meets the promise of `gap_ack_block_at` has the start and the end of that index
 pub block-read-back : (starts ends : List ℕ) → length starts ≡ length ends → ((j : ℕ) → getD starts j 0 < 2 ^ 16) → ((j : ℕ) → getD ends j 0 < 2 ^ 16) → (i : ℕ) → i < length starts
     → (r : GapAckBlockAt) → ((f : BlockFront (gapBlocks starts ends) i) → blockTold r ≡ blockRead (gapBlocks starts ends) i (f .fields)) → blockTold r ≡ says none (block (getD starts i 0) (getD ends i 0))
-unfolding gapBlocks
 block-read-back starts ends same small less i h r promise =
-    let b = block (getD starts i 0) (getD ends i 0) in
-    let more = gapBlocks (drop (suc i) starts) (drop (suc i) ends) in
-    let k : i < length ends = omega arith in
-    let is : drop (4 * i) (gapBlocks starts ends) ≡ blockBytes b ++ more = blocks-from starts ends i same ∙ rw (drop-cons starts i 0 h, drop-cons ends i 0 k) in
-    rw (entry-passes (gapBlocks starts ends) i (length starts) (blocks-length starts ends same) h) at
-    (promise (record { fields = b; fits = record { start = small i; end = less i }; begins = rw is (begins-with (blockBytes b) more 4 (block-length b)) }))
+    rw (entry-passes (gapBlocks starts ends) i (length starts) (entries-length block-entries starts ends same) h) at
+    (promise (record { fields = block (getD starts i 0) (getD ends i 0); fits = record { start = small i; end = less i }; begins = entry-begins block-entries starts ends i same h }))
 
 -- what meets the promise of `duplicate_tsn_at` has the duplicate of that index
 pub tsn-read-back : (tsns : List ℕ) → ((j : ℕ) → getD tsns j 0 < 2 ^ 32) → (i : ℕ) → i < length tsns
     → (r : DuplicateTsnAt) → ((f : TsnFront (duplicateTsns tsns) i) → tsnTold r ≡ tsnRead (duplicateTsns tsns) i (f .fields)) → tsnTold r ≡ says none (getD tsns i 0)
-unfolding duplicateTsns
 tsn-read-back tsns small i h r promise =
-    let t = getD tsns i 0 in
-    let more = duplicateTsns (drop (suc i) tsns) in
-    let is : drop (4 * i) (duplicateTsns tsns) ≡ bigEndian 4 t ++ more = tsns-from tsns i ∙ rw (drop-cons tsns i 0 h) in
-    rw (entry-passes (duplicateTsns tsns) i (length tsns) (tsns-length tsns) h) at
-    (promise (record { fields = t; fits = small i; begins = rw is (begins-with (bigEndian 4 t) more 4 (big-endian-length 4 t)) }))
+    rw (entry-passes (duplicateTsns tsns) i (length tsns) (entries-length tsn-entries tsns tsns refl) h) at
+    (promise (record { fields = getD tsns i 0; fits = small i; begins = entry-begins tsn-entries tsns tsns i refl h }))
 
 -- ── reading what was written gives the fields ──
 
@@ -211,34 +186,18 @@ sack-read-written raw f e plain starts ends duplicates l =
 -- any 4 n bytes are n blocks
 pub blocks-exist : (n : ℕ) (part : List ℕ) → Bytes part → length part ≡ 4 * n
     → (starts : List ℕ) × (ends : List ℕ) × (length starts ≡ n) × (length ends ≡ n) × (gapBlocks starts ends ≡ part)
-unfolding gapBlocks blockBytes
-blocks-exist zero part by l = ([], [], refl, refl, take-all 0 part (omega arith))
-blocks-exist (suc n) part by l =
-    let k : length (drop 4 part) ≡ 4 * n = rw length-drop (omega arith) in
-    let p = piece part by 2 (omega arith) in
-    let q = piece (drop 2 part) (bytes-drop part 2 by) 2 (rw length-drop (omega arith)) in
-    let (starts, ends, s, e, is) = blocks-exist n (drop 4 part) (bytes-drop part 4 by) k in
-    (p .value ∷ starts, q .value ∷ ends, ap suc s, ap suc e, rw (← (cut part 2 2 p (q .is)), is) (take-append-drop 4 part))
+unfolding blockBytes
+blocks-exist = entries-exist block-entries some
+  where
+    some : (raw : List ℕ) → Bytes raw → 4 ≤ length raw → (s : ℕ) × (e : ℕ) × (take 4 raw ≡ blockBytes (block s e))
+    some raw by h = let (p, q, is) = two raw by h in (p .value, q .value, is)
 
 -- any 4 n bytes are n duplicates
 pub tsns-exist : (n : ℕ) (part : List ℕ) → Bytes part → length part ≡ 4 * n → (tsns : List ℕ) × (length tsns ≡ n) × (duplicateTsns tsns ≡ part)
-unfolding duplicateTsns
-tsns-exist zero part by l = ([], refl, take-all 0 part (omega arith))
-tsns-exist (suc n) part by l =
-    let k : length (drop 4 part) ≡ 4 * n = rw length-drop (omega arith) in
-    let p = piece part by 4 (omega arith) in
-    let (tsns, t, is) = tsns-exist n (drop 4 part) (bytes-drop part 4 by) k in
-    (p .value ∷ tsns, ap suc t, rw (← (p .is), is) (take-append-drop 4 part))
-
-bytes-take : (n : ℕ) (raw : List ℕ) → Bytes raw → Bytes (take n raw)
-bytes-take zero raw by i = omega arith
-bytes-take (suc n) [] by i = omega arith
-bytes-take (suc n) (a ∷ raw) by zero = by 0
-bytes-take (suc n) (a ∷ raw) by (suc i) = bytes-take n raw (λ j. by (suc j)) i
-
--- n entries of lent bytes are 4 n bytes
-entries : (raw : List ℕ) → Bytes raw → (start n : ℕ) → start + 4 * n ≤ length raw → Bytes (take (4 * n) (drop start raw)) × (length (take (4 * n) (drop start raw)) ≡ 4 * n)
-entries raw by start n h = (bytes-take (4 * n) (drop start raw) (bytes-drop raw start by), length-take-le (4 * n) (drop start raw) (rw length-drop (omega arith)))
+tsns-exist n part by l = let (tsns, any, t, u, is) = entries-exist tsn-entries some n part by l in (tsns, t, is)
+  where
+    some : (raw : List ℕ) → Bytes raw → 4 ≤ length raw → (t : ℕ) × (u : ℕ) × (take 4 raw ≡ bigEndian 4 t)
+    some raw by h = let p = piece raw by 4 h in (p .value, 0, p .is)
 
 -- whatever is accepted has such lists behind its fields
 pub lists-exist : (raw : List ℕ) (f : SackFront raw) → Bytes raw → first (sackChecks (length raw) (f .fields)) ≡ none
@@ -246,8 +205,8 @@ pub lists-exist : (raw : List ℕ) (f : SackFront raw) → Bytes raw → first (
 lists-exist raw f by e =
     let s = f .fields .fields in
     let a = sack-accepted raw f e in
-    let p = entries raw by 16 (s .blocks) (omega (arith, a .lists, a .within)) in
-    let q = entries raw by (16 + 4 * s .blocks) (s .duplicates) (omega (arith, a .lists, a .within)) in
+    let p = entry-bytes raw by 16 (s .blocks) (omega (arith, a .lists, a .within)) in
+    let q = entry-bytes raw by (16 + 4 * s .blocks) (s .duplicates) (omega (arith, a .lists, a .within)) in
     let (starts, ends, c, m, b) = blocks-exist (s .blocks) _ (p .0) (p .1) in
     let (duplicates, x, t) = tsns-exist (s .duplicates) _ (q .0) (q .1) in
     (starts, ends, duplicates, record { count = c; same = m; number = x; blocks = b; tsns = t })

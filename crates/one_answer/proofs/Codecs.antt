@@ -1,6 +1,6 @@
 -- No second outcome of a call of the codecs fits its promise: the answer, the part with its place, and the bytes of a buffer that is written are fixed.
 -- Assumes nothing.
-use mathlib.Core.Path.{_≡_, sym, _∙_}
+use mathlib.Core.Path.{_≡_}
 use mathlib.Core.Bool.{Bool}
 use mathlib.Core.List.{List}
 use Prim.Native.Nat.{ℕ}
@@ -24,7 +24,10 @@ use Rattle.chunk_selective_ack.specs.Sack.{sackTold, SackFront, sackRead, block
 use Rattle.chunk_selective_ack.specs.declared.Unmarshalled as sack
 use Rattle.chunk_selective_ack.specs.declared.GapAckBlockAt.{GapAckBlockAt}
 use Rattle.chunk_selective_ack.specs.declared.DuplicateTsnAt.{DuplicateTsnAt}
-use Rattle.chunk_theorems.proofs.OneAnswer.{header-one, header-as-one, data-one, user-data-one, sack-one, blocks-part-one, duplicates-part-one, block-one, tsn-one, written-one}
+use Rattle.chunk_forward_tsn.specs.ForwardTsn.{forwardTold, ForwardFront, forwardRead, pairsPart, PairFront, pairTold, pairRead, forwardWritten}
+use Rattle.chunk_forward_tsn.specs.declared.Unmarshalled as forward
+use Rattle.chunk_forward_tsn.specs.declared.StreamAt.{StreamAt}
+use Rattle.chunk_theorems.proofs.OneAnswer.{header-one, header-as-one, data-one, user-data-one, sack-one, blocks-part-one, duplicates-part-one, block-one, tsn-one, forward-one, pairs-part-one, pair-one, written-one}
 use Rattle.one_answer.proofs.Only.{Only, named-one, both}
 
 -- ── numbers that wrap ──
@@ -99,6 +102,12 @@ module _ (raw : List ℕ) (by : Bytes raw) where
   pub sack-duplicate-tsn-at-one : (i : ℕ) → Only (λ (r : DuplicateTsnAt). (f : TsnFront raw i) → tsnTold r ≡ tsnRead raw i (f .fields))
   sack-duplicate-tsn-at-one i r s p q = tsn-one raw by i p q
 
+  pub forward-unmarshal-one : Only (λ (r : forward.Unmarshalled). (f : ForwardFront raw) → forwardTold r ≡ forwardRead (length raw) (f .fields))
+  forward-unmarshal-one r s p q = forward-one raw by p q
+
+  pub forward-stream-at-one : (i : ℕ) → Only (λ (r : StreamAt). (f : PairFront raw i) → pairTold r ≡ pairRead raw i (f .fields))
+  forward-stream-at-one i r s p q = pair-one raw by i p q
+
 -- ── the parts: refusal, bytes and place ──
 
 module _ (raw : RefT (List ℕ)) (by : Bytes (raw .now)) where
@@ -110,6 +119,9 @@ module _ (raw : RefT (List ℕ)) (by : Bytes (raw .now)) where
 
   pub sack-duplicate-tsns-one : Only (λ (p : Part). (f : SackFront (raw .now)) → p ≡ duplicatesPart raw (f .fields))
   sack-duplicate-tsns-one r s p q = duplicates-part-one raw by p q
+
+  pub forward-streams-one : Only (λ (p : Part). (f : HeaderFront (raw .now)) → p ≡ pairsPart raw (f .fields))
+  forward-streams-one r s p q = pairs-part-one raw by p q
 
 -- ── the writers: the answer and the buffer ──
 
@@ -126,6 +138,9 @@ data-marshal-to-one fields user out = wrote-one
 pub sack-marshal-to-one : (cumulative window : ℕ) (starts ends duplicates out : List ℕ)
     → Only (λ (o : Wrote). written (marshalTold (o .gives)) (o .out) ≡ sackWritten cumulative window starts ends duplicates out)
 sack-marshal-to-one cumulative window starts ends duplicates out = wrote-one
+
+pub forward-marshal-to-one : (point : ℕ) (streams ssns out : List ℕ) → Only (λ (o : Wrote). written (marshalTold (o .gives)) (o .out) ≡ forwardWritten point streams ssns out)
+forward-marshal-to-one point streams ssns out = wrote-one
 
 -- ── fields of a DATA chunk by their numbers ──
 

@@ -19,6 +19,7 @@ use Rattle.payload_queue.specs.declared.Pushed.{Pushed}
 use Rattle.payload_queue.specs.declared.Popped.{Popped}
 use Rattle.payload_queue.specs.declared.Dropped.{Dropped}
 use Rattle.payload_queue.specs.declared.Duplicates.{Duplicates}
+use Rattle.forward_tsn.specs.Applied.{appliedToTsns}
 use Rattle.one_answer.proofs.Only.{Only, named-one, both}
 use Rattle.one_answer.proofs.Told.{flag-one, number-one, taken-one, last-one, done-one, handed-one}
 use Rattle.one_answer.proofs.States.{TsnWords, tsn-struct-one, tsn-words-one}
@@ -69,6 +70,11 @@ module _ (self : PayloadQueue) (table : List ℕ) where
   pub queue-pop-up-to-one : (tsn : ℕ)
       → Only (λ (o : Left Dropped). TsnWords (o .table) × (after (doneTold (o .gives .answer)) (queueOf (o .gives .queue) (o .table)) ≡ poppedUpTo (queueOf self table) tsn))
   queue-pop-up-to-one tsn = left-one doneTold (λ b. done-one) (λ (r : Dropped). r .answer) (λ (r : Dropped). r .queue) (λ r s. both (λ a l. record { answer = a; queue = l }))
+
+  -- a FORWARD TSN chunk applied
+  pub forward-tsn-apply-to-tsns-one : («cumulative_tsn» «new_cumulative_tsn» : ℕ)
+      → Only (λ (o : Left Dropped). TsnWords (o .table) × (after (doneTold (o .gives .answer)) (queueOf (o .gives .queue) (o .table)) ≡ appliedToTsns (queueOf self table) «cumulative_tsn» «new_cumulative_tsn»))
+  forward-tsn-apply-to-tsns-one «cumulative_tsn» «new_cumulative_tsn» = left-one doneTold (λ b. done-one) (λ (r : Dropped). r .answer) (λ (r : Dropped). r .queue) (λ r s. both (λ a l. record { answer = a; queue = l }))
 
   pub queue-get-one : (tsn : ℕ) → Only (λ (r : Taken). takenTold r ≡ got (queueOf self table) tsn)
   queue-get-one tsn = taken-one

@@ -17,6 +17,9 @@ use Rattle.reassembly_queue.specs.declared.ReassemblyQueue.{ReassemblyQueue}
 use Rattle.reassembly_queue.specs.declared.Pushed.{Pushed}
 use Rattle.reassembly_queue.specs.declared.Taken.{Taken}
 use Rattle.reassembly_queue.specs.declared.Forwarded.{Forwarded}
+use Rattle.wire.proofs.Exists.{Bytes}
+use Rattle.forward_tsn.specs.Applied.{Pairs, appliedToStream}
+use Rattle.forward_theorems.proofs.Pairs.{pairs-some}
 use Rattle.one_answer.proofs.Only.{Only, named-one, both}
 use Rattle.one_answer.proofs.Told.{hand-flag-one, hand-number-one, took-one, rq-done-one}
 use Rattle.one_answer.proofs.States.{FragmentWords, rq-struct-one, rq-words-one, rq-pool-one}
@@ -84,3 +87,12 @@ module _ (self : ReassemblyQueue) (table pool : List ℕ) where
 
   pub rq-get-num-bytes-one : Only (λ (r : Number). numberTold r ≡ numBytes (stateOf self table pool))
   rq-get-num-bytes-one = hand-number-one
+
+  -- ── a FORWARD TSN chunk applied ──
+
+  pub forward-tsn-apply-to-stream-one : («cumulative_tsn» «new_cumulative_tsn» : ℕ) (streams : List ℕ) → Bytes streams
+      → Only (λ (o : Left Forwarded). FragmentWords (o .table)
+      × ((f : Pairs streams) → after (doneTold (o .gives .answer)) (stateOf (o .gives .queue) (o .table) (o .pool)) ≡ appliedToStream (stateOf self table pool) «cumulative_tsn» «new_cumulative_tsn» (f .streams) (f .ssns)))
+  forward-tsn-apply-to-stream-one «cumulative_tsn» «new_cumulative_tsn» streams by r s p q =
+      let f = pairs-some streams by in
+      left-one doneTold (λ b. rq-done-one) (λ (r : Forwarded). r .answer) (λ (r : Forwarded). r .queue) (λ r s. both (λ a l. record { answer = a; queue = l })) r s (p .0, p .1 f) (q .0, q .1 f)

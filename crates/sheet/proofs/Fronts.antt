@@ -33,7 +33,7 @@ data-front size raw h e =
 
 -- the header alone
 abbrev pub head-of : {raw : List ℕ} → DataFront raw → HeaderFront raw
-head-of f = header-front dataValue DataFits f
+head-of f = header-front dataValue DataFits 12 f
 
 unfoldable pub front-2 : DataFront p2-bytes
 unfolding bigEndian headerBytes dataValue

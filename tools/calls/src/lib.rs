@@ -118,15 +118,23 @@ calls! {
     50 MRead { room: u32, fill: u8 }
     51 MNext { most: u64 }
     52 MForge { field: u8, value: u64 }
+    53 FwdUnmarshal { raw: Vec<u8> }
+    54 FwdStreams { raw: Vec<u8> }
+    55 FwdStreamAt { part: Vec<u8>, index: u64 }
+    56 FwdMarshal { room: u32, fill: u8, point: u32, streams: Vec<u16>, ssns: Vec<u16> }
+    57 PqApplyForward { cumulative: u32, point: u32 }
+    58 RqApplyForward { part: Vec<u8>, cumulative: u32, point: u32 }
 }
 
 impl Call {
     /// Whether every operand is one that the form lets in.
     fn allowed(&self) -> bool {
         match self {
-            Call::DataMarshal { room, .. } | Call::SackMarshal { room, .. } | Call::RqRead { room, .. } | Call::MRead { room, .. } => {
-                *room as usize <= BYTES_MOST
-            }
+            Call::DataMarshal { room, .. }
+            | Call::SackMarshal { room, .. }
+            | Call::FwdMarshal { room, .. }
+            | Call::RqRead { room, .. }
+            | Call::MRead { room, .. } => *room as usize <= BYTES_MOST,
             Call::PqGapAckBlocks { starts, ends, .. } => (*starts).max(*ends) as usize <= LIST_MOST,
             Call::PqForge { field, .. } => *field <= 4,
             Call::RqForge { field, .. } => *field <= 9,
@@ -254,6 +262,10 @@ mod tests {
             Call::DataUnmarshal { raw: vec![0, 3, 0, 16] },
             Call::MNext { most: u64::MAX },
             Call::PqNew {},
+            Call::FwdMarshal { room: 12, fill: 7, point: 1, streams: vec![2, 3], ssns: vec![4] },
+            Call::FwdStreamAt { part: vec![0, 1, 0, 2], index: 1 << 40 },
+            Call::RqApplyForward { part: vec![0, 1, 0, 2, 9], cumulative: 1, point: 1 << 31 },
+            Call::PqApplyForward { cumulative: 3, point: 4 },
         ];
         let mut stream = Vec::new();
         calls.iter().for_each(|c| c.encode(&mut stream));
@@ -266,8 +278,31 @@ mod tests {
 
     #[test]
     fn malformed_streams_are_none() {
-        for bytes in [&[0u8][..], &[15], &[255], &[1, 0, 0], &[5, 0, 1, 0, 65], &[30, 5, 0, 0, 0, 0, 0, 0, 0, 0, 0, 0]] {
+        for bytes in [&[0u8][..], &[15], &[59], &[255], &[1, 0, 0], &[5, 0, 1, 0, 65], &[30, 5, 0, 0, 0, 0, 0, 0, 0, 0, 0, 0]] {
             assert_eq!(Call::decode(&mut &bytes[..]), None, "{bytes:?}");
+        }
+    }
+
+    #[test]
+    fn operands_of_forward_tsn_stand_in_the_order_of_the_table() {
+        let encoded = |call: Call| {
+            let mut stream = Vec::new();
+            call.encode(&mut stream);
+            stream
+        };
+        assert_eq!(encoded(Call::PqApplyForward { cumulative: 1, point: 2 }), [57, 0, 0, 0, 1, 0, 0, 0, 2]);
+        let applied = Call::RqApplyForward { part: vec![7], cumulative: 1, point: 2 };
+        assert_eq!(encoded(applied), [58, 0, 0, 0, 1, 7, 0, 0, 0, 1, 0, 0, 0, 2]);
+        let written = Call::FwdMarshal { room: 1, fill: 2, point: 3, streams: vec![4], ssns: vec![5] };
+        assert_eq!(encoded(written), [56, 0, 0, 0, 1, 2, 0, 0, 0, 3, 0, 1, 0, 4, 0, 1, 0, 5]);
+    }
+
+    #[test]
+    fn room_and_lists_have_a_limit() {
+        for (room, pairs, whether) in [(65_600, 16_400, true), (65_601, 0, false), (0, 16_401, false)] {
+            let mut stream = Vec::new();
+            Call::FwdMarshal { room, fill: 0, point: 0, streams: vec![0; pairs], ssns: vec![] }.encode(&mut stream);
+            assert_eq!(Call::decode(&mut &stream[..]).is_some(), whether, "{room} {pairs}");
         }
     }
 

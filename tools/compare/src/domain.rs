@@ -1,5 +1,7 @@
-//! Document 01's domain for equality: the calls on which the Rust and the rules must answer the same.
+//! Document 01's domain for equality: the calls on which the Rust and the rules must answer the same; document 02's calls likewise.
 use crate::model::Model;
+use crate::model::fault::Wrong;
+use crate::model::forward;
 use crate::model::fragments::{BYTES, FRAGMENTS, Reassembly};
 use crate::model::tsns::{LOG, TSNS};
 use calls::{Call, Data, Fields, U};
@@ -17,12 +19,19 @@ pub fn inside(model: &Model, call: &Call) -> bool {
         | Call::DataUserData { raw }
         | Call::SackUnmarshal { raw }
         | Call::SackBlocks { raw }
-        | Call::SackDuplicates { raw } => padding(raw).iter().all(|b| *b == 0),
+        | Call::SackDuplicates { raw }
+        | Call::FwdUnmarshal { raw }
+        | Call::FwdStreams { raw } => padding(raw).iter().all(|b| *b == 0),
         Call::DataMarshal { room, data, .. } => data.size <= 65_519 && *room >= 16 + data.size,
         Call::SackMarshal { room, starts, ends, duplicates, .. } => {
             let entries = starts.len() + duplicates.len();
             starts.len() == ends.len() && entries <= 16_379 && *room as usize >= 16 + 4 * entries
         }
+        Call::FwdMarshal { room, streams, ssns, .. } => {
+            streams.len() == ssns.len() && streams.len() <= forward::PAIRS && *room as usize >= 8 + 4 * streams.len()
+        }
+        Call::PqApplyForward { cumulative, point } => !opposite(*cumulative, *point),
+        Call::RqApplyForward { part, cumulative, point } => applied(&model.reassembly, part, *cumulative, *point),
         Call::PqPush { fields, cumulative, .. } => tsn_push(model, fields.tsn, *cumulative),
         Call::PqGapAckBlocks { cumulative, starts, ends, .. } => model.tsns.blocks(*cumulative).len() <= (*starts).min(*ends) as usize,
         Call::RqPush { fields, data } => push(&model.reassembly, fields, *data),
@@ -30,7 +39,7 @@ pub fn inside(model: &Model, call: &Call) -> bool {
         Call::RqForwardOrdered { ssn } => ssns(&model.reassembly, &[*ssn, ssn.wrapping_add(1)]),
         Call::RqForwardUnordered { tsn } => tsns(&model.reassembly, *tsn),
         Call::MNext { most } => *most <= PIECE_MOST,
-        Call::TsnDistance { .. } | Call::SsnDistance { .. } | Call::SackBlockAt { .. } | Call::SackDuplicateAt { .. } => false,
+        Call::TsnDistance { .. } | Call::SsnDistance { .. } | Call::SackBlockAt { .. } | Call::SackDuplicateAt { .. } | Call::FwdStreamAt { .. } => false,
         Call::PqForge { .. } | Call::PqWhole {} | Call::RqForge { .. } | Call::RqWhole {} | Call::MForge { .. } => false,
         _ => true,
     }
@@ -72,6 +81,20 @@ fn tsns(queue: &Reassembly, tsn: u32) -> bool {
 fn ssns(queue: &Reassembly, more: &[u16]) -> bool {
     let ordered = &queue.held()[(queue.finished + queue.loose) as usize..];
     one_arc(16, ordered.iter().map(|r| r.ssn()).chain([queue.expected]).chain(more.iter().copied()).map(u32::from))
+}
+
+fn opposite(a: u32, b: u32) -> bool {
+    a.wrapping_sub(b) == 1 << 31
+}
+
+/// A FORWARD TSN chunk whose point is old, or whose skips are all inside: the SSNs that become the expected one, and the point, in the arcs.
+fn applied(queue: &Reassembly, part: &[u8], cumulative: u32, point: u32) -> bool {
+    if opposite(cumulative, point) {
+        return false;
+    }
+    let named = forward::ssns_of(queue.stream, part, Wrong::default());
+    let numbers: Vec<u16> = named.into_iter().flat_map(|ssn| [ssn, ssn.wrapping_add(1)]).collect();
+    forward::is_old(queue.serial, cumulative, point) || ssns(queue, &numbers) && tsns(queue, point)
 }
 
 /// A fragment that is not held, with room for it.

@@ -1,5 +1,6 @@
 //! Differences between the rules and the Rust that docs/DIFFERENCES.md explains, where one call shows them.
 use crate::domain::padding;
+use crate::model::forward::PAIRS;
 use calls::Call;
 
 /// Number and heading of each.
@@ -11,6 +12,7 @@ pub fn by(call: &Call, ours: &[u8], oracle: &[u8]) -> Option<u8> {
     let (number, explained) = match call {
         Call::DataMarshal { data, .. } => (3, data.size > 65_519 && ours.starts_with(b"refused 9 ")),
         Call::SackMarshal { starts, duplicates, .. } => (3, starts.len() + duplicates.len() > 16_379 && ours.starts_with(b"refused 9 ")),
+        Call::FwdMarshal { streams, .. } => (3, streams.len() > PAIRS && ours.starts_with(b"refused 9 ")),
         Call::Sna32 { a, b } => (8, a.wrapping_sub(*b) == 1 << 31 && half_way),
         Call::Sna16 { a, b } => (8, a.wrapping_sub(*b) == 1 << 15 && half_way),
         Call::Header { raw }
@@ -18,7 +20,9 @@ pub fn by(call: &Call, ours: &[u8], oracle: &[u8]) -> Option<u8> {
         | Call::DataUserData { raw }
         | Call::SackUnmarshal { raw }
         | Call::SackBlocks { raw }
-        | Call::SackDuplicates { raw } => (9, padding(raw).iter().any(|b| *b != 0) && oracle == b"error ErrChunkHeaderPaddingNonZero"),
+        | Call::SackDuplicates { raw }
+        | Call::FwdUnmarshal { raw }
+        | Call::FwdStreams { raw } => (9, padding(raw).iter().any(|b| *b != 0) && oracle == b"error ErrChunkHeaderPaddingNonZero"),
         Call::MNext { most } => (15, *most > i64::MAX as u64 && oracle.starts_with(b"panic ")),
         _ => return None,
     };
@@ -38,5 +42,8 @@ mod tests {
         let padded = Call::Header { raw: vec![0, 0, 0, 4, 1] };
         assert_eq!(by(&padded, b"header 0 0 4", b"error ErrChunkHeaderPaddingNonZero"), Some(9));
         assert_eq!(by(&padded, b"header 0 0 4", b"refused 2"), None);
+        let forward = |pairs| Call::FwdMarshal { room: 0, fill: 0, point: 0, streams: vec![0; pairs], ssns: vec![0; pairs] };
+        assert_eq!(by(&forward(16_382), b"refused 9 -", b"no such answer"), Some(3));
+        assert_eq!(by(&forward(16_381), b"refused 9 -", b"no such answer"), None);
     }
 }

@@ -1,4 +1,4 @@
-//! Random calls from a seed, answered by the proved program `replies`, by the Rust (`oracle`) and by a model of document 01, and compared line by line.
+//! Random calls from a seed, answered by the proved program `replies`, by the Rust (`oracle`) and by a model of documents 01 and 02, and compared line by line.
 mod answerers;
 mod coverage;
 mod domain;

@@ -42,8 +42,9 @@ fn half_way() -> Vec<Call> {
 fn bytes_and_pieces() -> Vec<Call> {
     let data = [0, 0, 0, 16, 0, 0, 0, 1, 0, 0, 0, 0, 0, 0, 0, 51, 1].to_vec();
     let chunks = vec![Call::Header { raw: vec![0, 0, 0, 4, 1] }, Call::DataUnmarshal { raw: data.clone() }, Call::DataUserData { raw: data }];
+    let forward = vec![Call::FwdUnmarshal { raw: [192, 0, 0, 8, 0, 0, 0, 1, 1].to_vec() }, Call::FwdStreams { raw: [192, 0, 0, 8, 0, 0, 0, 1, 0, 0, 1].to_vec() }];
     let pieces = fresh([push(B | E, 1, 0, 1), read(1), Call::MNext { most: u64::MAX }, Call::MNext { most: u64::MAX }]);
-    [chunks, pieces].concat()
+    [chunks, forward, pieces].concat()
 }
 
 /// 14: calls on which the Rust stops.

@@ -37,7 +37,7 @@ pub fn write(folder: &Path, oracle: &Who, seed: u64) -> Result<(), String> {
         stdout.extend(line);
         stdout.push(b'\n');
     }
-    let source = format!("lines 1 to {inside}: the Rust\nlines {} to {}: the model of document 01\n", inside + 1, calls.len());
+    let source = format!("lines 1 to {inside}: the Rust\nlines {} to {}: the model of documents 01 and 02\n", inside + 1, calls.len());
     for (name, bytes) in [("stdin", &stdin), ("stdout", &stdout), ("source", &source.into_bytes())] {
         std::fs::write(folder.join(name), bytes).map_err(|e| format!("{}: {e}", folder.join(name).display()))?;
     }
@@ -101,12 +101,16 @@ fn sack(blocks: usize, duplicates: u32, room: u32) -> Call {
     Call::SackMarshal { room, fill: 0xEE, cumulative: 1, window: 2, starts, ends, duplicates: (0..duplicates).collect() }
 }
 
-/// The longest DATA, and a SACK with as many entries as can be.
-fn greatest_inside() -> Vec<Call> {
-    vec![data(65_519, 65_537), sack(8_000, 8_379, 65_532)]
+fn forward(pairs: u16, room: u32) -> Call {
+    Call::FwdMarshal { room, fill: 0xEE, point: 1, streams: (0..pairs).collect(), ssns: (0..pairs).map(|i| 3 * i).collect() }
 }
 
-/// One byte and one entry more.
+/// The longest DATA, and a SACK and a FORWARD TSN with as many entries as can be.
+fn greatest_inside() -> Vec<Call> {
+    vec![data(65_519, 65_537), sack(8_000, 8_379, 65_532), forward(16_381, 65_532)]
+}
+
+/// One byte and one entry more, each.
 fn greatest_outside() -> Vec<Call> {
-    vec![data(65_520, 65_600), sack(16_380, 0, 0)]
+    vec![data(65_520, 65_600), sack(16_380, 0, 0), forward(16_382, 0)]
 }

@@ -4,7 +4,7 @@ use crate::model::Model;
 use crate::run::{Explained, Lines, parting, split};
 use crate::simpler::{simpler, tsns};
 use crate::{Mode, domain};
-use calls::{Answers, Call, Fields};
+use calls::{Answers, Call};
 use std::time::{Duration, Instant};
 
 struct Shrink<'a> {
@@ -138,10 +138,13 @@ impl Shrink<'_> {
                 calls = self.shows(&moved).unwrap_or(calls);
             }
         }
-        let mut zero = calls.clone();
+        let (mut zero, mut own) = (calls.clone(), [0; 2]);
         for call in &mut zero {
-            if let Call::RqNew { stream, .. } | Call::RqPush { fields: Fields { stream, .. }, .. } = call {
-                *stream = 0;
+            match call {
+                Call::RqNew { stream, .. } => own = std::mem::take(stream).to_be_bytes(),
+                Call::RqPush { fields, .. } => fields.stream = 0,
+                Call::RqApplyForward { part, .. } => part.chunks_mut(4).filter(|pair| pair.starts_with(&own)).for_each(|pair| pair[..2].fill(0)),
+                _ => {}
             }
         }
         self.shows(&zero).unwrap_or(calls)

@@ -19,6 +19,7 @@ pub fn tsns(call: &mut Call) -> Vec<&mut u32> {
         Call::RqPush { fields, .. } => vec![&mut fields.tsn],
         Call::PqPop { tsn } | Call::PqPopUpTo { tsn } | Call::PqGet { tsn } | Call::RqForwardUnordered { tsn } => vec![tsn],
         Call::PqGapAckBlocks { cumulative, .. } => vec![cumulative],
+        Call::PqApplyForward { cumulative, point } | Call::RqApplyForward { cumulative, point, .. } => vec![cumulative, point],
         _ => vec![],
     }
 }
@@ -38,8 +39,12 @@ fn operands(call: &mut Call) -> Vec<Operand<'_>> {
         | Call::DataUserData { raw }
         | Call::SackUnmarshal { raw }
         | Call::SackBlocks { raw }
-        | Call::SackDuplicates { raw } => vec![Bytes(raw)],
-        Call::SackBlockAt { part, index } | Call::SackDuplicateAt { part, index } => vec![Bytes(part), U64(index)],
+        | Call::SackDuplicates { raw }
+        | Call::FwdUnmarshal { raw }
+        | Call::FwdStreams { raw } => vec![Bytes(raw)],
+        Call::SackBlockAt { part, index } | Call::SackDuplicateAt { part, index } | Call::FwdStreamAt { part, index } => vec![Bytes(part), U64(index)],
+        Call::RqApplyForward { part, cumulative, point } => vec![Bytes(part), U32(cumulative), U32(point)],
+        Call::FwdMarshal { room, fill, point, .. } => vec![U32(room), U8(fill), U32(point)],
         Call::DataMarshal { room, fill, fields, data } => of_fields(fields).chain(of_data(data)).chain([U32(room), U8(fill)]).collect(),
         Call::SackMarshal { room, fill, cumulative, window, .. } => vec![U32(room), U8(fill), U32(cumulative), U32(window)],
         Call::PqPush { fields, size, cumulative } => of_fields(fields).chain([U16(size), U32(cumulative)]).collect(),

@@ -48,17 +48,17 @@ fn four(answers: [bool; 4], line: &mut Vec<u8>) {
     words!(line, answers.map(|yes| if yes { "yes" } else { "no" }).join(" "));
 }
 
-fn part(bytes: &[u8], line: &mut Vec<u8>) {
+pub fn part(bytes: &[u8], line: &mut Vec<u8>) {
     words!(line, "part");
     line::bytes(bytes, line);
 }
 
-fn read<T: Chunk>(raw: &[u8], line: &mut Vec<u8>, show: impl FnOnce(T, &mut Vec<u8>)) {
+pub fn read<T: Chunk>(raw: &[u8], line: &mut Vec<u8>, show: impl FnOnce(T, &mut Vec<u8>)) {
     shown::result(T::unmarshal(&Bytes::copy_from_slice(raw)), line, show);
 }
 
 /// The chunk's bytes at the front of a lent buffer. The Rust's own buffer grows, so it has no answer for one that is too short.
-fn write(chunk: &impl Chunk, room: u32, fill: u8, line: &mut Vec<u8>) {
+pub fn write(chunk: &impl Chunk, room: u32, fill: u8, line: &mut Vec<u8>) {
     shown::result(chunk.marshal(), line, |written, line| {
         let mut buffer = shown::lent(room, fill);
         match buffer.get_mut(..written.len()) {

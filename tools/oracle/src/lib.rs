@@ -4,6 +4,7 @@ extern crate alloc;
 include!(concat!(env!("OUT_DIR"), "/sctp.rs"));
 
 mod codec;
+mod forward_tsn;
 mod panics;
 mod reassembly;
 mod shown;
@@ -36,15 +37,18 @@ impl Oracle {
             ..16 => codec::answer(call, line),
             16..32 => self.tsn_queue.answer(call, line),
             32..48 => self.reassembly.answer(call, line),
-            48.. => self.reassembly.answer_in_hand(call, line),
+            48..53 => self.reassembly.answer_in_hand(call, line),
+            53..57 => forward_tsn::answer(call, line),
+            57 => self.tsn_queue.answer(call, line),
+            58.. => self.reassembly.answer(call, line),
         }
     }
 
     /// A queue may be in any order after a panic, so a fresh one takes its place. The message in hand is not altered by the panic it may give.
     fn renew(&mut self, call: &Call) {
         match call.number() {
-            16..32 => self.tsn_queue = Default::default(),
-            32..48 => self.reassembly.renew(),
+            16..32 | 57 => self.tsn_queue = Default::default(),
+            32..48 | 58 => self.reassembly.renew(),
             _ => {}
         }
     }

@@ -1,5 +1,6 @@
 //! Reassembly and the message in hand.
 use crate::chunk::chunk_payload_data::ChunkPayloadData;
+use crate::forward_tsn;
 use crate::queue::reassembly_queue::{Chunks, ReassemblyQueue};
 use crate::shown;
 use bytes::Bytes;
@@ -49,6 +50,13 @@ impl Reassembly {
             }
             Call::RqForwardUnordered { tsn } => {
                 queue.forward_tsn_for_unordered(*tsn);
+                words!(line, "done")
+            }
+            Call::RqApplyForward { part, cumulative, point } => {
+                if !forward_tsn::is_old(*point, *cumulative) {
+                    forward_tsn::ssns_of(queue.si, part).into_iter().for_each(|ssn| queue.forward_tsn_for_ordered(ssn));
+                    queue.forward_tsn_for_unordered(*point);
+                }
                 words!(line, "done")
             }
             Call::RqNumBytes {} => words!(line, "number", queue.get_num_bytes()),

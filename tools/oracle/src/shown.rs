@@ -21,16 +21,17 @@ pub fn result<T>(result: Result<T>, line: &mut Vec<u8>, show: impl FnOnce(T, &mu
     }
 }
 
-/// Document 01's number for an error, or the name of one that has none.
+/// Document 01's number for an error, 12 document 02's, or the name of one that has none.
 pub fn refused(error: &Error, line: &mut Vec<u8>) {
     let number = match error {
         Error::ErrChunkHeaderTooSmall => 1,
         Error::ErrChunkHeaderInvalidLength | Error::ErrChunkHeaderNotEnoughSpace => 2,
-        Error::ErrChunkTypeNotPayloadData | Error::ErrChunkTypeNotSack => 3,
+        Error::ErrChunkTypeNotPayloadData | Error::ErrChunkTypeNotSack | Error::ErrChunkTypeNotForwardTsn => 3,
         Error::ErrChunkPayloadSmall => 4,
         Error::ErrSackSizeNotLargeEnoughInfo => 5,
         Error::ErrInboundPacketTooLarge => 6,
         Error::ErrShortBuffer => 7,
+        Error::ErrChunkTooShort => 12,
         other => return words!(line, "error", format!("{other:?}").split([' ', '(']).next().unwrap_or_default()),
     };
     line::refused(number, line);

@@ -1,5 +1,6 @@
 //! The TSN queue.
 use crate::chunk::chunk_payload_data::ChunkPayloadData;
+use crate::forward_tsn;
 use crate::queue::payload_queue::PayloadQueue;
 use crate::shown;
 use bytes::Bytes;
@@ -31,6 +32,12 @@ impl TsnQueue {
             Call::PqPop { tsn } => chunk(queue.pop(*tsn).as_ref(), line),
             Call::PqPopUpTo { tsn } => {
                 queue.pop_up_to(*tsn);
+                words!(line, "done")
+            }
+            Call::PqApplyForward { cumulative, point } => {
+                if !forward_tsn::is_old(*point, *cumulative) {
+                    queue.pop_up_to(*point);
+                }
                 words!(line, "done")
             }
             Call::PqGet { tsn } => chunk(queue.get(*tsn), line),

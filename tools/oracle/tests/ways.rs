@@ -68,6 +68,9 @@ fn lengths_are_cut_to_16_bits() {
     assert!(answer(&mut oracle, &sack(16_379)).starts_with("wrote 65532 0300fffc0000000100000002"));
     assert!(answer(&mut oracle, &sack(16_380)).starts_with("wrote 65536 030000000000000100000002"));
     assert!(answer(&mut oracle, &sack(16_381)).starts_with("wrote 65540 030000040000000100000002"));
+    let forward = |n| Call::FwdMarshal { room: 65_540, fill: 0, point: 1, streams: vec![0; n], ssns: vec![0; n] };
+    assert!(answer(&mut oracle, &forward(16_381)).starts_with("wrote 65532 c000fffc00000001"));
+    assert!(answer(&mut oracle, &forward(16_382)).starts_with("wrote 65536 c000000000000001"));
 }
 
 #[test]
@@ -78,6 +81,7 @@ fn up_to_three_bytes_after_the_length_must_be_0() {
         (Call::DataUnmarshal { raw: data(&[0, 0, 1]) }, "error ErrChunkHeaderPaddingNonZero"),
         (Call::DataUnmarshal { raw: data(&[0, 0, 0]) }, "data - 1 0 0 51"),
         (Call::DataUnmarshal { raw: data(&[0, 0, 0, 1]) }, "data - 1 0 0 51"),
+        (Call::FwdUnmarshal { raw: hex("c0 00 00 08 00 00 00 01 01") }, "error ErrChunkHeaderPaddingNonZero"),
     ]);
 }
 

@@ -19,7 +19,7 @@ returns c f =
     let n = p .before in
     let s = n .before in
     let t = s .before in
-    let w = headed-whole dataValue DataFits f refl (t .before .before .pre) in
+    let w = headed-whole dataValue DataFits 12 f refl (t .before .before .pre) in
     let d = f .fits .fields in
     rw (
       c .from-u32 .ensures,

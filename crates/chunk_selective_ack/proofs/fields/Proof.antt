@@ -18,7 +18,7 @@ returns c f =
     let n = c .before in
     let r = n .before in
     let t = r .before in
-    let w = headed-whole sackValue SackFits f refl (t .before .before .pre) in
+    let w = headed-whole sackValue SackFits 12 f refl (t .before .before .pre) in
     let d = f .fits .fields in
     rw (
       field w 4 4 (omega arith) (d .cumulative) (search needs) refl (t .get-u32 .ensures),

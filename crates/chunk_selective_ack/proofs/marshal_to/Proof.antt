@@ -16,7 +16,8 @@ use Rattle.chunk.specs.Layout.{header, headerBytes}
 use Rattle.chunk_selective_ack.specs.Layout.{sack, sackValue, gapBlocks, duplicateTsns, sackChunk}
 use Rattle.chunk_selective_ack.specs.Sack.{sackWritten}
 use Rattle.chunk.proofs.Headers.{header-put, header-length}
-use Rattle.chunk_selective_ack.proofs.SackBytes.{blocks-length, sack-value-length, sack-chunk-length, sack-chunk-parts}
+use Rattle.chunk.proofs.Entries.{entries-length}
+use Rattle.chunk_selective_ack.proofs.SackBytes.{block-entries, sack-value-length, sack-chunk-length, sack-chunk-parts}
 use Rattle.chunk_selective_ack.proofs.marshal_to.Statement.{statement}
 use Rattle.chunk_selective_ack.proofs.marshal_to.Tie as tie
 
@@ -64,7 +65,7 @@ done c =
     let value = sackValue (sack (a .cumulative) (a .window) (length starts) (length duplicates)) in
     let fields = behind out head value 4 (header-length _) (header-put out 3 0 (16 + 4 * length starts + 4 * length duplicates) (h .put-header .ensures)) (v .put-fields .ensures) in
     let blocks = behind out (head ++ value) (gapBlocks starts ends) 16 (simp (length-append, header-length, sack-value-length)) fields (b .put-blocks .ensures) in
-    let long : length ((head ++ value) ++ gapBlocks starts ends) ≡ 16 + 4 * length starts = simp (length-append, header-length, sack-value-length) (omega (arith, blocks-length starts ends same)) in
+    let long : length ((head ++ value) ++ gapBlocks starts ends) ≡ 16 + 4 * length starts = simp (length-append, header-length, sack-value-length) (omega (arith, entries-length block-entries starts ends same)) in
     let all = behind out ((head ++ value) ++ gapBlocks starts ends) (duplicateTsns duplicates) (16 + 4 * length starts) long blocks (t .put-tsns .ensures) in
     write-done (nine starts ends duplicates) (sackChunk 0 (a .cumulative) (a .window) starts ends duplicates []) out
     (rw (le-ltb 16379 _ (one .if1 .left), eq-eqb _ _ same))

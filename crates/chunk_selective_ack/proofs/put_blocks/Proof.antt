@@ -6,8 +6,9 @@ use native.Mathlib.Omega.{arith}
 use lib.ListN.{length, getD, take, length-drop, length-take}
 use lib.Seq.{take-all}
 use Rattle.wire.proofs.Writing.{Filled, fill-none, fill-turn}
+use Rattle.chunk.proofs.Entries.{entries-more, entries-taken}
 use Rattle.chunk_selective_ack.specs.Layout.{block, blockBytes, gapBlocks}
-use Rattle.chunk_selective_ack.proofs.SackBytes.{blocks-more, blocks-taken}
+use Rattle.chunk_selective_ack.proofs.SackBytes.{block-entries}
 use Rattle.chunk_selective_ack.proofs.put_blocks.Statement.{statement}
 use Rattle.chunk_selective_ack.proofs.put_blocks.Tie as tie
 
@@ -34,8 +35,8 @@ turn c =
     let i = l .loop .i in
     let same = l .loop .inv .0 in (
       same,
-      fill-turn (l .loop .inv .1) (blocks-taken starts ends same) (omega arith) (blockBytes (block (getD starts i 0) (getD ends i 0)))
-          (blocks-more starts ends i (omega arith) (omega arith)) (p .put-block .ensures),
+      fill-turn (l .loop .inv .1) (entries-taken block-entries starts ends same) (omega arith) (blockBytes (block (getD starts i 0) (getD ends i 0)))
+          (entries-more block-entries starts ends i (omega arith) (omega arith)) (p .put-block .ensures),
     )
 
 end : tie.Need-returns Inv μ

@@ -8,8 +8,9 @@ use lib.ListN.{length, getD, take, length-drop, length-take}
 use lib.Seq.{take-all}
 use Rattle.wire.specs.BigEndian.{bigEndian, over}
 use Rattle.wire.proofs.Writing.{Filled, fill-none, fill-turn}
+use Rattle.chunk.proofs.Entries.{entries-more, entries-taken}
 use Rattle.chunk_selective_ack.specs.Layout.{duplicateTsns}
-use Rattle.chunk_selective_ack.proofs.SackBytes.{tsns-more, tsns-taken}
+use Rattle.chunk_selective_ack.proofs.SackBytes.{tsn-entries}
 use Rattle.chunk_selective_ack.proofs.put_tsns.Statement.{statement}
 use Rattle.chunk_selective_ack.proofs.put_tsns.Tie as tie
 
@@ -29,7 +30,7 @@ turn c =
     let l = p .before .before .before .before in
     let tsns = l .before .before .before .args .tsns .now in
     let i = l .loop .i in
-    fill-turn (l .loop .inv) (tsns-taken tsns) (omega arith) (bigEndian 4 (getD tsns i 0)) (tsns-more tsns i (omega arith)) (p .put-u32 .ensures)
+    fill-turn (l .loop .inv) (entries-taken tsn-entries tsns tsns refl) (omega arith) (bigEndian 4 (getD tsns i 0)) (entries-more tsn-entries tsns tsns i (omega arith) (omega arith)) (p .put-u32 .ensures)
 
 end : tie.Need-returns Inv μ
 end c =

@@ -23,7 +23,7 @@ refused c =
     let lent = length (r .before .before .args .raw .now) in (
       λ f.
           let h = f .fields .header in
-          let t = told-refused (kindChecks 3 16 5 lent h) h (r .unmarshal-as .result) (r .unmarshal-as .ensures .0 (header-front sackValue SackFits f)) (c .before .header .given .1) in
+          let t = told-refused (kindChecks 3 16 5 lent h) h (r .unmarshal-as .result) (r .unmarshal-as .ensures .0 (header-front sackValue SackFits 12 f)) (c .before .header .given .1) in
           rw (first-refused (kindChecks 3 16 5 lent h) (listsOnly (f .fields)) t),
       tt,
     )
@@ -40,7 +40,7 @@ behind c f =
     let r = m .before .before in
     let lent = length (r .before .before .args .raw .now) in
     let h = f .fields .header in
-    let t = told-taken (kindChecks 3 16 5 lent h) h (r .unmarshal-as .result) (r .unmarshal-as .ensures .0 (header-front sackValue SackFits f)) (m .header2 .given .1) in
+    let t = told-taken (kindChecks 3 16 5 lent h) h (r .unmarshal-as .result) (r .unmarshal-as .ensures .0 (header-front sackValue SackFits 12 f)) (m .header2 .given .1) in
     record { passed = t .0; size = ap (λ (x : Header). x .size) (t .1); fields = c .before .before .fields .ensures f }
 
 short : tie.Need-returns

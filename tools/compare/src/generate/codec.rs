@@ -3,15 +3,17 @@ use super::Maker;
 use crate::Mode;
 use crate::domain;
 use crate::model::codec;
+use crate::model::forward::{self, PAIRS};
 use crate::rng::Rng;
-use calls::{BYTES_MOST, Call, Data, Fields};
+use calls::{BYTES_MOST, Call, Data, Fields, LIST_MOST};
 
 pub fn run(m: &mut Maker) {
     for _ in 0..m.rng.within(10, 60) {
-        match m.rng.below(12) {
-            0..7 => read(m),
-            7..9 => write_data(m),
-            9..11 => write_sack(m),
+        match m.rng.below(15) {
+            0..9 => read(m),
+            9..11 => write_data(m),
+            11..13 => write_sack(m),
+            13 => write_forward(m),
             _ => look_up(m),
         }
     }
@@ -77,7 +79,7 @@ fn words(rng: &mut Rng, n: usize) -> Vec<u32> {
 /// A chunk of some kind, good or damaged.
 fn chunk(m: &mut Maker) -> Vec<u8> {
     let rng = &mut m.rng;
-    let mut raw = match rng.below(8) {
+    let mut raw = match rng.below(10) {
         0..3 => {
             let data = Data { size: size(rng) as u32, seed: rng.byte() };
             codec::data_chunk(&fields(rng), &data.bytes())
@@ -86,7 +88,11 @@ fn chunk(m: &mut Maker) -> Vec<u8> {
             let (n, x) = (entries(rng), entries(rng));
             codec::sack_chunk(rng.number() as u32, rng.number() as u32, &shorts(rng, n), &shorts(rng, n), &words(rng, x))
         }
-        6 => {
+        6 | 7 => {
+            let n = entries(rng);
+            forward::forward_chunk(rng.number() as u32, &shorts(rng, n), &shorts(rng, n))
+        }
+        8 => {
             let n = rng.below(30) as usize;
             let value: Vec<u8> = (0..n).map(|_| rng.byte()).collect();
             codec::chunk(rng.pick(&[0, 1, 3, 3, 192, 255]), rng.byte(), &value)
@@ -132,12 +138,15 @@ fn read(m: &mut Maker) {
         raw[end - padding..].fill(0);
     }
     for _ in 0..m.rng.within(1, 3) {
-        let call = reading(m.rng.below(6), raw.clone());
+        let call = reading(m.rng.below(READERS), raw.clone());
         m.put(call);
     }
 }
 
-/// The six calls that read a chunk.
+/// How many calls read a chunk.
+pub const READERS: u64 = 8;
+
+/// The calls that read a chunk.
 pub fn reading(which: u64, raw: Vec<u8>) -> Call {
     match which {
         0 => Call::Header { raw },
@@ -145,7 +154,9 @@ pub fn reading(which: u64, raw: Vec<u8>) -> Call {
         2 => Call::DataUserData { raw },
         3 => Call::SackUnmarshal { raw },
         4 => Call::SackBlocks { raw },
-        _ => Call::SackDuplicates { raw },
+        5 => Call::SackDuplicates { raw },
+        6 => Call::FwdUnmarshal { raw },
+        _ => Call::FwdStreams { raw },
     }
 }
 
@@ -187,11 +198,28 @@ fn write_sack(m: &mut Maker) {
     m.call(call);
 }
 
+fn write_forward(m: &mut Maker) {
+    // Too long for a length of 16 bits: difference 3.
+    let too_long = m.rng.one_in(2_000);
+    let n = if too_long { m.rng.within(PAIRS as u64 + 1, LIST_MOST as u64) as usize } else { entries(&mut m.rng) };
+    let other = if m.wild(8) { n.abs_diff(1) } else { n };
+    let (streams, ssns) = if m.rng.one_in(2) { (n, other) } else { (other, n) };
+    let room = if too_long { m.rng.pick(&[0, 0, 0, 30, BYTES_MOST as u32]) } else { room(m, 8 + 4 * n as u64) };
+    let rng = &mut m.rng;
+    let (streams, ssns) = (shorts(rng, streams), shorts(rng, ssns));
+    let call = Call::FwdMarshal { room, fill: rng.byte(), point: rng.number() as u32, streams, ssns };
+    m.put(call);
+}
+
 fn look_up(m: &mut Maker) {
     let part: Vec<u8> = (0..m.rng.below(20)).map(|_| m.rng.byte()).collect();
     let count = part.len() as u64 / 4;
     let any = m.rng.number();
     let index = m.rng.pick(&[0, count / 2, count.wrapping_sub(1), count.wrapping_sub(1), count, count + 1, any, u64::MAX, 1 << 62]);
-    let call = if m.rng.one_in(2) { Call::SackBlockAt { part, index } } else { Call::SackDuplicateAt { part, index } };
+    let call = match m.rng.below(3) {
+        0 => Call::SackBlockAt { part, index },
+        1 => Call::SackDuplicateAt { part, index },
+        _ => Call::FwdStreamAt { part, index },
+    };
     m.call(call);
 }

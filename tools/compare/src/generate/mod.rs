@@ -1,6 +1,7 @@
 //! Random calls from a seed. A model stands beside the generator, so that it knows the state and, in mode `in`, keeps inside document 01's domain.
 mod codec;
 mod forge;
+mod forward;
 mod hand;
 mod plan;
 mod reassembly;
@@ -39,12 +40,12 @@ impl Batch {
     }
 }
 
-/// The batch of that number: so many calls, or a few more, so that its last run ends. One call in twelve is a short input: batch number n has the n-th
+/// The batch of that number: so many calls, or a few more, so that its last run ends. One call in nine is a short input: batch number n has the n-th
 /// so many of them.
 pub fn batch(mode: Mode, seed: u64, number: u64, size: usize) -> Batch {
     let mut m = Maker::new(mode, Rng::nth(seed, number));
     m.begin();
-    let short = size as u64 / 12;
+    let short = size as u64 / 9;
     m.batch.short = short;
     for i in 0..short {
         short::item(&mut m, number * short + i);
@@ -116,10 +117,10 @@ impl Maker {
         let mut tail = Vec::new();
         match self.rng.below(6) {
             0 => return,
-            1 => tail.push(self.rng.pick(&[0, 15, 42, 47, 53, 255])),
-            2 => tail.extend([5, 0, 1, 0, 65]),
+            1 => tail.push(self.rng.pick(&[0, 15, 42, 47, 59, 255])),
+            2 => tail.extend([self.rng.pick(&[5, 53, 58]), 0, 1, 0, 65]),
             3 => tail.extend([self.rng.pick(&[30, 40, 52]), 10, 0, 0, 0, 0, 0, 0, 0, 0, 0, 0]),
-            4 => tail.extend([35, 0, 1, 0, 65, 7]),
+            4 => tail.extend([self.rng.pick(&[35, 56]), 0, 1, 0, 65, 7]),
             _ => {
                 let last = self.batch.calls.iter().rev().find(|call| !matches!(call, Call::PqNew {})).expect("a call");
                 last.encode(&mut tail);

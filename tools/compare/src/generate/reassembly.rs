@@ -1,6 +1,6 @@
 //! Runs of reassembly: messages whose fragments arrive in any order, with takes and skips between them.
 use super::plan::{self, Fragment, Kind};
-use super::{Maker, forge, hand, tsns};
+use super::{Maker, forge, forward, hand, tsns};
 use crate::Mode;
 use crate::coverage::Event;
 use crate::model::fragments::{BYTES, FRAGMENTS};
@@ -69,6 +69,9 @@ fn arrive(m: &mut Maker, mut due: Vec<Fragment>, plain: bool) {
         if !plain && m.rng.one_in(40) {
             skip(m);
         }
+        if !plain && m.rng.one_in(40) {
+            forward::stream(m);
+        }
         if m.wild(12) {
             m.put(Call::RqPush { fields, data });
         }
@@ -97,6 +100,9 @@ fn odd(m: &mut Maker) {
         m.call(Call::RqPush { fields, data });
         if m.rng.one_in(14) {
             skip(m);
+        }
+        if m.rng.one_in(14) {
+            forward::stream(m);
         }
         step_on(m);
     }
@@ -186,14 +192,18 @@ fn step_on(m: &mut Maker) {
     if m.wild(20) {
         skip(m);
     }
+    if m.wild(20) {
+        forward::stream(m);
+    }
     look(m);
 }
 
 fn ask(m: &mut Maker) {
-    match m.rng.below(7) {
+    match m.rng.below(8) {
         0 | 1 => m.put(Call::RqIsReadable {}),
         2 => m.put(Call::RqNumBytes {}),
         3 if m.mode == Mode::Out => skip(m),
+        4 if m.mode == Mode::Out => forward::stream(m),
         _ => _ = hand::take(m),
     }
 }

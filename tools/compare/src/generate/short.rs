@@ -1,28 +1,29 @@
 //! Short inputs, all of them, and each length about a boundary: a fixed list, of which every batch has its part.
 use super::Maker;
-use super::codec::reading;
+use super::codec::{READERS, reading};
 use crate::Mode;
 use crate::domain;
+use crate::model::forward::PAIRS;
 use crate::rng::Rng;
 use calls::{Call, Data, Fields};
 
 /// Bytes that matter.
 const BYTES: [u8; 13] = [0, 1, 2, 3, 4, 5, 15, 16, 17, 127, 128, 254, 255];
 
-/// Raws of no byte, of one and of two, over all values; of three and of four over the bytes that matter. Each by the six reading calls.
-const UP_TO_TWO: u64 = 6 * (1 + 256 + 65_536);
-const THREE: u64 = 6 * 13 * 13 * 13;
-const FOUR: u64 = 6 * 13 * 13 * 13 * 13;
-/// 0 to 40 bytes lent, a length of 0 to 44, four types.
-const LENGTHS: u64 = 6 * 41 * 45 * 4;
+/// Raws of no byte, of one and of two, over all values; of three and of four over the bytes that matter. Each by the reading calls.
+const UP_TO_TWO: u64 = READERS * (1 + 256 + 65_536);
+const THREE: u64 = READERS * 13 * 13 * 13;
+const FOUR: u64 = READERS * 13 * 13 * 13 * 13;
+/// 0 to 40 bytes lent, a length of 0 to 44, five types.
+const LENGTHS: u64 = READERS * 41 * 45 * 5;
 /// A SACK of 16 to 48 bytes with 0 to 8 blocks and duplicates.
-const SACKS: u64 = 6 * 33 * 9 * 9;
+const SACKS: u64 = READERS * 33 * 9 * 9;
 /// Two numbers against every number of 16 bits.
 const SSNS: u64 = 2 * 65_536;
-/// DATA of 0 to 40 bytes into 0 to 60; SACK of 0 to 6 blocks and duplicates into 0 to 70.
-const WRITTEN: u64 = 41 * 61 + 7 * 7 * 71;
+/// DATA of 0 to 40 bytes into 0 to 60; SACK of 0 to 6 blocks and duplicates into 0 to 70; FORWARD TSN of 0 to 6 pairs into 0 to 40.
+const WRITTEN: u64 = 41 * 61 + 7 * 7 * 71 + 7 * 41;
 /// Chunks and lists about their greatest length.
-const LONG: u64 = 6 * 41 + 21 * 3 + 5 * 3;
+const LONG: u64 = READERS * 41 + 21 * 3 + 5 * 3 + 5;
 
 pub const COUNT: u64 = UP_TO_TWO + THREE + FOUR + LENGTHS + SACKS + SSNS + WRITTEN + LONG;
 
@@ -32,6 +33,7 @@ pub fn item(m: &mut Maker, k: u64) {
     let call = numbered((k % COUNT).wrapping_mul(1_000_003) % COUNT, m.mode);
     match call {
         Call::Sna16 { .. } => m.put(call),
+        Call::FwdMarshal { ref streams, .. } if streams.len() > PAIRS => m.put(call),
         Call::SackMarshal { ref starts, ref duplicates, .. } if starts.len() + duplicates.len() > 16_379 => m.put(call),
         _ => _ = m.call(call),
     }
@@ -39,11 +41,11 @@ pub fn item(m: &mut Maker, k: u64) {
 
 fn numbered(mut k: u64, mode: Mode) -> Call {
     let parts: [(u64, fn(u64, Mode) -> Call); 8] = [
-        (UP_TO_TWO, |k, _| reading(k % 6, up_to_two(k / 6))),
-        (THREE, |k, _| reading(k % 6, some_bytes(k / 6, 3))),
-        (FOUR, |k, mode| reading(k % 6, padded(some_bytes(k / 6, 4), mode))),
-        (LENGTHS, |k, mode| reading(k % 6, padded(lengths(k / 6), mode))),
-        (SACKS, |k, mode| reading(k % 6, padded(sack(k / 6), mode))),
+        (UP_TO_TWO, |k, _| reading(k % READERS, up_to_two(k / READERS))),
+        (THREE, |k, _| reading(k % READERS, some_bytes(k / READERS, 3))),
+        (FOUR, |k, mode| reading(k % READERS, padded(some_bytes(k / READERS, 4), mode))),
+        (LENGTHS, |k, mode| reading(k % READERS, padded(lengths(k / READERS), mode))),
+        (SACKS, |k, mode| reading(k % READERS, padded(sack(k / READERS), mode))),
         (SSNS, |k, _| Call::Sna16 { a: if k < 65_536 { 0 } else { 40_000 }, b: k as u16 }),
         (WRITTEN, |k, _| written(k)),
         (LONG, long),
@@ -86,7 +88,7 @@ fn padded(mut raw: Vec<u8>, mode: Mode) -> Vec<u8> {
 fn lengths(k: u64) -> Vec<u8> {
     let (lent, length, kind) = (k % 41, k / 41 % 45, k / (41 * 45));
     let mut rng = Rng::new(k);
-    let mut raw = vec![[0, 3, 1, 255][kind as usize], rng.byte(), 0, length as u8];
+    let mut raw = vec![[0, 3, 192, 1, 255][kind as usize], rng.byte(), 0, length as u8];
     raw.extend((4..44).map(|_| rng.byte()));
     for high in [12, 14] {
         (raw[high], raw[high + 1]) = (0, rng.below(4) as u8);
@@ -109,7 +111,8 @@ fn written(k: u64) -> Call {
     let fields = Fields { flags: k as u8, tsn: k as u32, stream: 1, ssn: 2, identifier: 50 + (k % 9) as u32 };
     match k.checked_sub(41 * 61) {
         None => Call::DataMarshal { room: (k / 41) as u32, fill: 0xEE, fields, data: Data { size: (k % 41) as u32, seed: 1 } },
-        Some(k) => sack_of(k % 7, k / 7 % 7, (k / 49) as u32),
+        Some(k) if k < 7 * 7 * 71 => sack_of(k % 7, k / 7 % 7, (k / 49) as u32),
+        Some(k) => forward_of(k % 7, (k / 7 % 41) as u32),
     }
 }
 
@@ -119,26 +122,34 @@ fn sack_of(n: u64, x: u64, room: u32) -> Call {
     Call::SackMarshal { room, fill: 0xEE, cumulative: 7, window: 8, starts, ends, duplicates: (0..x as u32).collect() }
 }
 
-/// Raws of 65,515 to 65,555 bytes, DATA of 65,515 to 65,535, SACKs of 16,377 to 16,381 entries.
+fn forward_of(n: u64, room: u32) -> Call {
+    let streams: Vec<u16> = (0..n).map(|i| (i % 3) as u16).collect();
+    Call::FwdMarshal { room, fill: 0xEE, point: 7, streams, ssns: (0..n as u16).collect() }
+}
+
+/// Raws of 65,515 to 65,555 bytes, DATA of 65,515 to 65,535, SACKs of 16,377 to 16,381 entries, FORWARD TSNs of 16,379 to 16,383 pairs.
 fn long(k: u64, mode: Mode) -> Call {
     let mut rng = Rng::new(k);
-    if k < 6 * 41 {
-        let lent = 65_515 + (k / 6) as usize;
-        let (which, length) = (k % 6, (lent as u64 - rng.below(4)).min(65_535) as u16);
-        let mut raw = vec![if which < 3 { 0 } else { 3 }, rng.byte()];
+    if k < READERS * 41 {
+        let lent = 65_515 + (k / READERS) as usize;
+        let (which, length) = (k % READERS, (lent as u64 - rng.below(4)).min(65_535) as u16);
+        let mut raw = vec![[0, 0, 0, 3, 3, 3, 192, 192][which as usize], rng.byte()];
         raw.extend(length.to_be_bytes());
         raw.extend((4..lent).map(|i| i as u8));
         let blocks = 16_370 + rng.below(12);
         (raw[12], raw[13], raw[14], raw[15]) = ((blocks >> 8) as u8, blocks as u8, 0, rng.below(3) as u8);
         return reading(which, padded(raw, mode));
     }
-    let k = k - 6 * 41;
+    let k = k - READERS * 41;
     if k < 21 * 3 {
         let size = 65_515 + (k / 3) as u32;
         let room = [0, 16 + size, 65_600][(k % 3) as usize].min(65_600);
         return Call::DataMarshal { room, fill: 0xEE, fields: Fields::default(), data: Data { size, seed: 1 } };
     }
     let k = k - 21 * 3;
+    if k >= 5 * 3 {
+        return forward_of(16_379 + k - 5 * 3, 65_600);
+    }
     let entries = 16_377 + k / 3;
     let n = [0, entries, entries / 2][(k % 3) as usize];
     sack_of(n, entries - n, 65_600)

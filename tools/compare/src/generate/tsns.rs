@@ -1,5 +1,5 @@
 //! Runs of the TSN queue.
-use super::{Maker, forge};
+use super::{Maker, forge, forward};
 use crate::Mode;
 use crate::coverage::Event;
 use crate::model::tsns::{LOG, TSNS};
@@ -130,6 +130,9 @@ fn step_on(m: &mut Maker, cumulative: &mut u32) {
         m.call(Call::PqPopUpTo { tsn });
         *cumulative = if m.rng.one_in(2) { tsn } else { *cumulative };
     }
+    if m.rng.one_in(20) {
+        forward::tsns(m, cumulative);
+    }
     if m.wild(8) {
         forge::tsns(m);
         while m.model.tsns.sound().is_err() && !m.rng.one_in(4) {
@@ -143,7 +146,7 @@ fn step_on(m: &mut Maker, cumulative: &mut u32) {
 }
 
 /// A TSN that is held, beside one, beside the cumulative one, half way from it, or any.
-fn some_tsn(m: &mut Maker, cumulative: u32) -> u32 {
+pub fn some_tsn(m: &mut Maker, cumulative: u32) -> u32 {
     let rng = &mut m.rng;
     let held = m.model.tsns.held();
     let any = rng.number() as u32;
@@ -156,7 +159,7 @@ fn some_tsn(m: &mut Maker, cumulative: u32) -> u32 {
 fn ask(m: &mut Maker, cumulative: u32) {
     let tsn = some_tsn(m, cumulative);
     let first = m.tsns_first().unwrap_or(tsn);
-    let call = match m.rng.below(14) {
+    let call = match m.rng.below(15) {
         0 => Call::PqCanPush { tsn, cumulative },
         1 => Call::PqGet { tsn },
         2..5 => return report(m, cumulative),
@@ -167,6 +170,7 @@ fn ask(m: &mut Maker, cumulative: u32) {
         9 => Call::PqContainsStream { stream: m.rng.below(6) as u16 },
         10 | 11 => Call::PqPop { tsn: m.rng.pick(&[tsn, first]) },
         12 => Call::PqCanPush { tsn: tsn.wrapping_add(1), cumulative },
+        13 if m.mode == Mode::Out => Call::PqApplyForward { cumulative, point: tsn },
         _ => Call::PqPopDuplicates {},
     };
     m.call(call);

@@ -17,7 +17,7 @@ pub struct Sack {
 }
 
 /// The big-endian number in these bytes.
-fn number(bytes: &[u8]) -> u32 {
+pub fn number(bytes: &[u8]) -> u32 {
     bytes.iter().fold(0, |n, b| n << 8 | *b as u32)
 }
 
@@ -37,7 +37,7 @@ pub fn header(raw: &[u8], wrong: Wrong) -> Result<Header, u8> {
 }
 
 /// The header of a chunk of this type. 3: another type.
-fn header_of(kind: u8, raw: &[u8], wrong: Wrong) -> Result<Header, u8> {
+pub fn header_of(kind: u8, raw: &[u8], wrong: Wrong) -> Result<Header, u8> {
     let header = header(raw, wrong)?;
     if header.kind == kind { Ok(header) } else { Err(3) }
 }
@@ -73,7 +73,7 @@ pub fn sack(raw: &[u8], wrong: Wrong) -> Result<Sack, u8> {
 }
 
 /// The 4-byte entry of a list. 11: the index is at or past the count of whole entries.
-fn entry(part: &[u8], index: u64, wrong: Wrong) -> Result<&[u8], u8> {
+pub fn entry(part: &[u8], index: u64, wrong: Wrong) -> Result<&[u8], u8> {
     let count = part.len() as u64 / 4;
     if index < count {
         return Ok(&part[4 * index as usize..][..4]);
@@ -122,7 +122,7 @@ pub fn sack_chunk(cumulative: u32, window: u32, starts: &[u16], ends: &[u16], du
 }
 
 /// A chunk into the front of a lent buffer. 10: the buffer is too short. The answer is the chunk's byte count.
-fn write(out: &mut [u8], chunk: &[u8]) -> Result<usize, u8> {
+pub fn write(out: &mut [u8], chunk: &[u8]) -> Result<usize, u8> {
     out.get_mut(..chunk.len()).ok_or(10)?.copy_from_slice(chunk);
     Ok(chunk.len())
 }

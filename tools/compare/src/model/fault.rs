@@ -43,6 +43,11 @@ faults! {
     PaddingRefused "bytes after the length are refused, as by the Rust"
     ExpectedStays "a take leaves the expected SSN"
     ScanGoesOn "the scan does not forget its start at a break"
+    PairsCutOff "a FORWARD TSN's length need not be whole pairs"
+    HalfPairTaken "a pair that the part ends within is taken, with zeros"
+    EveryPairTaken "pairs that name another stream are taken"
+    PairsReversed "pairs are taken in reverse order"
+    PointAtCumulative "a new point at the cumulative TSN is applied"
 }
 
 /// Which mistake is made, if any.

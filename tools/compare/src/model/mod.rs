@@ -1,7 +1,8 @@
-//! Document 01's rules as a plain program: what each call of docs/CALLS.md answers, and what it leaves. Written from the document, to be held against
-//! the proved program and against the Rust.
+//! Document 01's rules and document 02's as a plain program: what each call of docs/CALLS.md answers, and what it leaves. Written from the documents, to be held
+//! against the proved program and against the Rust.
 pub mod codec;
 pub mod fault;
+pub mod forward;
 pub mod fragments;
 pub mod hand;
 pub mod rows;
@@ -44,6 +45,7 @@ impl Answers for Model {
             1..=14 => self.answer_codec(call, line),
             16..=31 => self.answer_tsns(call, line),
             32..=41 => self.answer_reassembly(call, line),
+            53..=58 => self.answer_forward(call, line),
             _ => match self.hand.take() {
                 Some(mut hand) => {
                     answer_hand(&mut hand, call, line);
@@ -143,6 +145,23 @@ impl Model {
                 written(answer, &out, line)
             }
             _ => unreachable!("{call:?} is no codec's call"),
+        }
+    }
+
+    fn answer_forward(&mut self, call: &Call, line: &mut Vec<u8>) {
+        let wrong = self.serial.wrong;
+        match call {
+            Call::FwdUnmarshal { raw } => told(forward::forward(raw, wrong), line, |(point, part), line| words!(line, "forward", point, part.len() / 4)),
+            Call::FwdStreams { raw } => part(forward::forward(raw, wrong).map(|(_, part)| part), line),
+            Call::FwdStreamAt { part, index } => told(forward::stream_at(part, *index, wrong), line, |(stream, ssn), line| words!(line, "stream", stream, ssn)),
+            Call::FwdMarshal { room, fill, point, streams, ssns } => {
+                let mut out = vec![*fill; *room as usize];
+                let answer = forward::write_forward(&mut out, *point, streams, ssns, wrong);
+                written(answer, &out, line)
+            }
+            Call::PqApplyForward { cumulative, point } => done(forward::apply_to_tsns(&mut self.tsns, *cumulative, *point), line),
+            Call::RqApplyForward { part, cumulative, point } => done(forward::apply_to_stream(&mut self.reassembly, part, *cumulative, *point), line),
+            _ => unreachable!("{call:?} is no call of FORWARD TSN"),
         }
     }
 

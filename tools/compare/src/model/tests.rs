@@ -170,3 +170,85 @@ fn an_unsound_queue_is_refused() {
     line(&mut model, Call::RqForge { field: 9, index: 0, value: 32_767 });
     assert_eq!(line(&mut model, push(B, 1, 0, 1)), "refused 0");
 }
+
+const FORWARD: &str = "C0 00 00 10 00 00 00 0A 00 01 00 05 00 02 FF FF";
+
+#[test]
+fn forward_tsn_is_read_and_written() {
+    let written = |room, streams, ssns| alone(Call::FwdMarshal { room, fill: 0, point: 10, streams, ssns });
+    assert_eq!(spaced(written(16, vec![1, 2], vec![5, 65_535]).strip_prefix("wrote 16 ").unwrap()), FORWARD);
+    assert_eq!(written(9, vec![], vec![]), "wrote 8 c00000080000000a00");
+    assert_eq!(written(3, vec![1, 2], vec![5]), "refused 9 000000");
+    assert_eq!(written(15, vec![1, 2], vec![5, 6]), format!("refused 10 {}", "00".repeat(15)));
+    assert!(written(65_532, vec![1; 16_381], vec![2; 16_381]).starts_with("wrote 65532 c000fffc0000000a00010002"));
+    assert_eq!(written(0, vec![1; 16_382], vec![2; 16_382]), "refused 9 -");
+    assert_eq!(alone(Call::FwdUnmarshal { raw: hex(FORWARD) }), "forward 10 2");
+    assert_eq!(alone(Call::FwdStreams { raw: hex(FORWARD) }), "part 000100050002ffff");
+    assert_eq!(alone(Call::FwdStreams { raw: hex("C0 FF 00 08 00 00 00 0A 01") }), "part -");
+    let pair = |index| alone(Call::FwdStreamAt { part: hex("00 01 00 05 00 02 FF FF 00 03 00"), index });
+    assert_eq!([pair(1), pair(2), pair(u64::MAX)], ["stream 2 65535", "refused 11", "refused 11"]);
+}
+
+#[test]
+fn forward_tsn_refusals() {
+    let read = |kind, length: u8, lent| {
+        let mut raw = vec![kind, 0, 0, length];
+        raw.resize(lent, 0);
+        let answers = [alone(Call::FwdUnmarshal { raw: raw.clone() }), alone(Call::FwdStreams { raw })];
+        assert!(answers[0] == answers[1] || answers[0].starts_with("forward"), "{answers:?}");
+        answers[0].clone()
+    };
+    assert_eq!(alone(Call::FwdUnmarshal { raw: vec![192, 0, 0] }), "refused 1");
+    assert_eq!([read(192, 3, 9), read(192, 9, 8), read(0, 7, 8)], ["refused 2", "refused 2", "refused 3"]);
+    assert_eq!([4, 7, 9, 10, 11, 13].map(|length| read(192, length, 16)), ["refused 12"; 6]);
+    assert_eq!([8, 12, 16].map(|length| read(192, length, 16)), ["forward 0 0", "forward 0 1", "forward 0 2"]);
+}
+
+/// Ordered SSNs 0 and 1 incomplete and 2 complete, a loose unordered fragment with TSN 7; after a chunk: the expected SSN, and the TSNs that are held.
+fn applied(part: &str, cumulative: u32, point: u32) -> (u16, Vec<u32>) {
+    let mut model = Model::new();
+    for call in [push(B, 1, 0, 1), push(B, 3, 1, 1), push(B | E, 5, 2, 1), push(U | B, 7, 0, 1)] {
+        line(&mut model, call);
+    }
+    let part = if part.is_empty() { vec![] } else { hex(part) };
+    assert_eq!(line(&mut model, Call::RqApplyForward { part, cumulative, point }), "done");
+    (model.reassembly.expected, model.reassembly.held().iter().map(|row| row.tsn).collect())
+}
+
+#[test]
+fn forward_tsn_skips_in_its_stream() {
+    assert_eq!(applied("00 00 00 01", 0, 7), (2, vec![5]));
+    assert_eq!(applied("00 00 00 01", 0, 6), (2, vec![7, 5]));
+    assert_eq!(applied("00 01 00 01", 0, 7), (0, vec![1, 3, 5]));
+    assert_eq!(applied("00 01 00 01 00 00 00 00", 0, 6), (1, vec![7, 3, 5]));
+    assert_eq!(applied("00 00 00", 0, 7), (0, vec![1, 3, 5]));
+    assert_eq!(applied("", 0, 7), (0, vec![1, 3, 5]));
+    // One after the other they go further round than the last alone.
+    assert_eq!(applied("00 00 4E 20 00 00 AF C8", 0, 6).0, 45_001);
+    assert_eq!(applied("00 00 AF C8 00 00 4E 20", 0, 6).0, 20_001);
+}
+
+#[test]
+fn an_old_point_changes_nothing_and_one_half_way_does() {
+    for cumulative in [7, 8, 7 + (1 << 31) - 1] {
+        assert_eq!(applied("00 00 00 01", cumulative, 7), (0, vec![7, 1, 3, 5]));
+    }
+    assert_eq!(applied("00 00 00 01", 7 + (1 << 31), 7), (2, vec![5]));
+    let mut model = Model::new();
+    for tsn in [4, 6] {
+        line(&mut model, Call::PqPush { fields: Fields { tsn, ..Fields::default() }, size: 3, cumulative: 0 });
+    }
+    for (cumulative, point, left) in [(6, 6, 2), (7, 6, 2), (4, 5, 1), (u32::MAX, 6, 0)] {
+        assert_eq!(line(&mut model, Call::PqApplyForward { cumulative, point }), "done");
+        assert_eq!(model.tsns.count, left);
+    }
+}
+
+#[test]
+fn an_unsound_queue_refuses_an_old_point_too() {
+    let mut model = Model::new();
+    line(&mut model, Call::PqForge { field: 0, index: 0, value: 257 });
+    line(&mut model, Call::RqForge { field: 3, index: 0, value: 129 });
+    assert_eq!(line(&mut model, Call::PqApplyForward { cumulative: 1, point: 0 }), "refused 0");
+    assert_eq!(line(&mut model, Call::RqApplyForward { part: vec![], cumulative: 1, point: 0 }), "refused 0");
+}

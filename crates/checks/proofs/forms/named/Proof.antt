@@ -8,7 +8,7 @@ abbrev Inv : tie.InvT-loop
 Inv name forms number₀ from₀ number from = Unit {0}
 
 abbrev μ : tie.MeasureT-loop
-μ name forms number₀ from₀ number from = 53 - number
+μ name forms number₀ from₀ number from = 59 - number
 
 pub named-spec : {M : Type 1} → statement M
 named-spec =

@@ -1,0 +1,77 @@
+-- `chunk_forward_tsn::marshal_to` meets its contract: what does not fit is refused, and else header, point and pairs stand one behind the other.
+-- Assumes nothing.
+use mathlib.Core.Path.{ap, _∙_}
+use mathlib.Core.Bool.{not, _||_, or-true}
+use mathlib.Core.List.{List, [], _∷_, _++_}
+use Prim.Native.Nat.{ℕ, _+_, _*_}
+use borrow.Author.Needs.{needs}
+use borrow.Author.Tests.{lt-ltb, le-ltb, eq-eqb, ne-eqb}
+use lib.Dec.{ltb, eqb}
+use lib.ListN.{length, length-append}
+use Rattle.wire.specs.BigEndian.{bigEndian, over}
+use Rattle.wire.specs.Refusal.{Check, when}
+use Rattle.wire.specs.Facts.{big-endian-length}
+use Rattle.wire.proofs.Writing.{behind, write-short, write-done}
+use Rattle.chunk.specs.Layout.{header, headerBytes}
+use Rattle.chunk.proofs.Headers.{header-put, header-length}
+use Rattle.chunk_forward_tsn.specs.Layout.{pairsBytes, forwardTsnChunk}
+use Rattle.chunk_forward_tsn.specs.ForwardTsn.{forwardWritten}
+use Rattle.chunk_forward_tsn.proofs.ForwardBytes.{forward-chunk-length, forward-chunk-parts}
+use Rattle.chunk_forward_tsn.proofs.marshal_to.Statement.{statement}
+use Rattle.chunk_forward_tsn.proofs.marshal_to.Tie as tie
+
+many : tie.Need-returns
+unfolding forwardWritten
+many c = rw (lt-ltb 16381 _ (c .if1 .taken))
+
+unequal : tie.Need-returns-2
+unfolding forwardWritten
+unequal c = rw (ne-eqb _ _ (c .if2 .taken), or-true)
+
+abbrev nine : List ℕ → List ℕ → List Check
+nine streams ssns = when (ltb 16381 (length streams) || not (eqb (length streams) (length ssns))) 9 ∷ []
+
+short : tie.Need-returns-3
+unfolding forwardWritten
+short c =
+    let two = c .before in
+    let one = two .before in
+    let a = one .before .before .before .before .args in
+    let point = a .new-cumulative-tsn in
+    let streams = a .identifiers .now in
+    let ssns = a .sequences .now in
+    write-short (nine streams ssns) (forwardTsnChunk 0 point streams ssns) (a .out .now)
+    (rw (le-ltb 16381 _ (one .if1 .left), eq-eqb _ _ (two .if2 .left)))
+    (forward-chunk-length 0 point streams ssns (two .if2 .left)) (c .if3 .taken)
+
+done : tie.Need-returns-4
+unfolding forwardWritten
+done c =
+    let p = c .before .before in
+    let v = p .before .before .before .before in
+    let h = v .before .before .before .before in
+    let three = h .before .before in
+    let two = three .before in
+    let one = two .before in
+    let a = one .before .before .before .before .args in
+    let out = a .out .now in
+    let point = a .new-cumulative-tsn in
+    let streams = a .identifiers .now in
+    let ssns = a .sequences .now in
+    let same = two .if2 .left in
+    let size = 8 + 4 * length streams in
+    let head = headerBytes (header 192 0 size) in
+    let fields = behind out head (bigEndian 4 point) 4 (header-length _) (header-put out 192 0 size (h .put-header .ensures)) (v .put-u32 .ensures) in
+    let all = behind out (head ++ bigEndian 4 point) (pairsBytes streams ssns) 8 (simp (length-append, header-length, big-endian-length)) fields (p .put-pairs .ensures) in
+    write-done (nine streams ssns) (forwardTsnChunk 0 point streams ssns) out
+    (rw (le-ltb 16381 _ (one .if1 .left), eq-eqb _ _ same))
+    (forward-chunk-length 0 point streams ssns same) (three .if3 .left)
+    (all ∙ ap (over out) (forward-chunk-parts 0 point streams ssns same))
+
+pub marshal-to-spec : {M : Type 1} → statement M
+marshal-to-spec =
+    tie.close
+    (tie.spec many unequal (λ c. search needs) (λ c. search needs) short
+    (λ c. search needs) (λ c κs. search needs) (λ c. search needs) (λ c. search needs) (λ c. search needs)
+    (λ c κs. search needs) (λ c. search needs) (λ c. search needs) (λ c. search needs) (λ c κs. search needs)
+    (λ c. search needs) done)
