@@ -11,7 +11,7 @@ use Rattle.serial.specs.Serial.{ahead, distance, before}
 use Rattle.chunk_payload_data.specs.Data.{identifierName, dataFlags, dataSent}
 use Rattle.chunk_payload_data.specs.declared.PayloadProtocolIdentifier.{PayloadProtocolIdentifier}
 use Rattle.chunk_payload_data.specs.declared.PayloadProtocolIdentifier.the-variants.{Dcep, String, Binary, StringEmpty}
-use Rattle.table.specs.Lists.{slice, gone}
+use Rattle.moves.specs.Lists.{slice, gone}
 use Rattle.fragments.specs.Words.{size, joined, any, while, past, find, placed}
 use Rattle.fragments.specs.Sets.{setOf, rises, complete, joins, grownSet, stored}
 use Rattle.fragments.specs.Loose.{runs, run, reach, startsBy, scan}

@@ -10,7 +10,7 @@ use Rattle.wire.specs.Refusal.{Refusal, none, refuse, Told, says}
 use Rattle.serial.specs.Serial.{ahead, distance, before}
 use Rattle.chunk_payload_data.specs.Data.{dataFlags, dataSent}
 use Rattle.chunk_payload_data.specs.declared.PayloadProtocolIdentifier.the-variants.{Binary}
-use Rattle.table.specs.Lists.{slice, gone}
+use Rattle.moves.specs.Lists.{slice, gone}
 use Rattle.fragments.specs.Frag.{Frag}
 use Rattle.fragments.specs.Words.{size, any, while, past, find, placed}
 use Rattle.fragments.specs.Sets.{setOf, rises, complete, joins, grownSet, stored}

@@ -7,7 +7,7 @@ use mathlib.Core.List.{List, [], _∷_}
 use Prim.Native.Nat.{ℕ, _+_}
 use native.Mathlib.Omega.{arith}
 use Rattle.serial.specs.Serial.{ahead, distance, before}
-use Rattle.table.specs.Lists.{slice, gone}
+use Rattle.moves.specs.Lists.{slice, gone}
 use Rattle.fragments.specs.Frag.{Frag}
 use Rattle.fragments.specs.Words.{size, joined, any, while, past, find, placed}
 use Rattle.fragments.specs.Sets.{setOf, rises, complete, joins, grownSet, stored}

@@ -10,7 +10,7 @@ use lib.Dec.{ltb, eqb}
 use lib.ListN.{length, take, drop, length-drop, length-replicate}
 use lib.Seq.{length-take-le}
 use Rattle.serial.specs.Serial.{next}
-use Rattle.table.specs.Lists.{put}
+use Rattle.moves.specs.Lists.{put}
 use Rattle.table.specs.Rows.{total, some, upToLast, aheadOf}
 use Rattle.table.specs.declared.Row.{Row}
 use Rattle.fragments.specs.Frag.{Frag, begins, ends, ssnOf, hasTsn, tsnBefore, hasSsn, ssnBefore, longLength, fragOf, bare, ofRow}

@@ -8,7 +8,7 @@ use lib.ListN.{length, take, drop}
 use lib.Seq.{take-append-le, drop-append-le, take-append-add, drop-append-add}
 use borrow.Author.Tests.{eqb-true}
 use Rattle.serial.specs.Serial.{atOrBefore}
-use Rattle.table.specs.Lists.{put}
+use Rattle.moves.specs.Lists.{put}
 use Rattle.fragments.specs.Frag.{Frag, ssnOf, hasSsn, ssnBefore}
 use Rattle.fragments.specs.Words.{any, while, past, placed, concat}
 use Rattle.fragments.specs.Sets.{otherSsn, fromSet, setOf, complete, joins, grownSet, stored, ahead, sets, setUpTo, keptSets, skipped}

@@ -5,7 +5,7 @@ ghost use mathlib.Core.List.{[], _∷_};
 ghost use Prim.Native.Nat.{_+_, _-_, _*_, _≤_, _<_};
 ghost use lib.ListN.{length, take, drop};
 ghost use Rattle.wire.specs.BigEndian.{over};
-ghost use Rattle.table.specs.Lists.{put, gone, turned};
+ghost use Rattle.moves.specs.Lists.{put, gone, turned};
 ghost use Rattle.table.specs.Rows.{rowsOf, total};
 ghost use Rattle.fragments.specs.Frag.{longLength, fragOf};
 ghost use Rattle.fragments.specs.Pool.{cut, layRows, layBytes};
@@ -75,7 +75,7 @@ pub fn put_fragment(
     ensures { λ _. ⌜ now (pool .exit) ≡ layBytes (put at (fragOf row (now (bytes .entry)) ∷ []) (cut (take n (rowsOf size (now (table .entry)))) (now (pool .entry)))) (now (pool .entry)) ⌝ }
 {
     let off = start_of(table, size, n, held, at);
-    table::bytes::put_bytes(pool, held, off, bytes);
+    moves::put_bytes(pool, held, off, bytes);
     table::put_row(table, size, n, at, row);
 }
 
@@ -105,7 +105,7 @@ pub fn close_fragments(
     if at + k == n {
         return;
     }
-    table::bytes::close_bytes(pool, held, off, bytes);
+    moves::close_bytes(pool, held, off, bytes);
     table::close_rows(table, size, n, at, k);
 }
 
@@ -161,7 +161,7 @@ pub fn move_fragments(
     let first = sum_long(table, size, 0, a);
     let middle = first + sum_long(table, size, a, b - a);
     let end = middle + sum_long(table, size, b, e - b);
-    table::bytes::turn_bytes(pool, first, middle, end);
+    moves::turn_bytes(pool, first, middle, end);
     table::turn_rows(table, size, a, b, e);
 }
 
@@ -187,5 +187,5 @@ pub fn move_down(
     ensures { λ _. ⌜ now (pool .exit) ≡ over (now (pool .entry)) (gone place (off - place) (take end (now (pool .entry)))) ⌝ }
 {
     table::close_rows(table, size, at + k, to, at - to);
-    table::bytes::close_bytes(pool, end, place, off - place);
+    moves::close_bytes(pool, end, place, off - place);
 }

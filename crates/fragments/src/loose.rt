@@ -45,7 +45,7 @@ pub fn run_down(table: &[u32], size: usize, from: usize, n: usize, tsn: u32) -> 
     let mut i: usize = 0;
     while i < n {
         i += 1;
-        let at = table::find_tsn(table, size, from, n, want);
+        let at = table_search::find_tsn(table, size, from, n, want);
         if n <= at {
             return sum;
         }
@@ -71,7 +71,7 @@ pub fn run_up(table: &[u32], size: usize, from: usize, n: usize, tsn: u32) -> us
     let mut i: usize = 0;
     while i < n {
         i += 1;
-        let at = table::find_tsn(table, size, from, n, want);
+        let at = table_search::find_tsn(table, size, from, n, want);
         if n <= at {
             return sum;
         }

@@ -15,7 +15,7 @@ use borrow.Author.Tests.{ltb-false, eqb-true, not-false}
 use Rattle.wire.specs.BigEndian.{over}
 use Rattle.wire.specs.Facts.{over-snoc}
 use Rattle.chunk_payload_data.specs.declared.ChunkPayloadData.{ChunkPayloadData}
-use Rattle.table.specs.Lists.{gone}
+use Rattle.moves.specs.Lists.{gone}
 use Rattle.table.specs.Rows.{blank, total, some, kept, shortLength}
 use Rattle.table.specs.declared.Row.{Row}
 use Rattle.payload_model.specs.Limits.{tsnsMost, logMost}

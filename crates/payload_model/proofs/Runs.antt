@@ -14,7 +14,7 @@ use Rattle.wire.specs.BigEndian.{over}
 use Rattle.wire.specs.Facts.{over-length}
 use Rattle.wire.specs.Refusal.{none, refuse, says}
 use Rattle.serial.specs.Serial.{ahead, distance, before, atOrBefore}
-use Rattle.table.specs.Lists.{put}
+use Rattle.moves.specs.Lists.{put}
 use Rattle.table.specs.Rows.{row, total, some, upToLast, kept, shortLength, hasTsn, tsnBefore}
 use Rattle.table.specs.declared.Row.{Row}
 use Rattle.table.proofs.Columns.{rows-long}

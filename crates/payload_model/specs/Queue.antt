@@ -11,7 +11,7 @@ use Rattle.serial.specs.Serial.{atOrBefore}
 use Rattle.chunk_payload_data.specs.Layout.{Data}
 use Rattle.chunk_payload_data.specs.Data.{DataValues, noData, dataShown, dataFlags, dataSent}
 use Rattle.chunk_payload_data.specs.declared.ChunkPayloadData.{ChunkPayloadData}
-use Rattle.table.specs.Lists.{put}
+use Rattle.moves.specs.Lists.{put}
 use Rattle.table.specs.Rows.{row, blank, rowsOf, total, some, upToLast, aheadOf, kept, hasTsn, hasStream, tsnBefore, shortLength}
 use Rattle.table.specs.declared.Row.{Row}
 use Rattle.payload_model.specs.Limits.{tsnsMost, logMost}

@@ -17,7 +17,7 @@ pub fn can_push(counts: Counts, table: &[u32; WORDS], tsn: u32, cumulative: u32)
         return Flag::Refused(0);
     }
     let count = counts.count;
-    if table::has_tsn(table, TSNS, 0, count, tsn) {
+    if table_search::has_tsn(table, TSNS, 0, count, tsn) {
         return Flag::Is(false);
     }
     Flag::Is(!serial::sna32lte(tsn, cumulative))
@@ -42,7 +42,7 @@ pub fn push(
     let count = counts.count;
     let row = payload_parts::record::row_of(chunk, size);
     let tsn = row.tsn;
-    if table::has_tsn(table, TSNS, 0, count, tsn) {
+    if table_search::has_tsn(table, TSNS, 0, count, tsn) {
         return Pushed {
             answer: Flag::Is(false),
             queue: payload_parts::logged(counts, tsn),
@@ -60,7 +60,7 @@ pub fn push(
             queue: counts,
         };
     }
-    let at = table::place_tsn(table, TSNS, 0, count, tsn);
+    let at = table_search::place_tsn(table, TSNS, 0, count, tsn);
     table::put_row(table, TSNS, count, at, row);
     let mut queue = counts;
     queue.count = count + 1;

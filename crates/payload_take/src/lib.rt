@@ -79,7 +79,7 @@ pub fn get(counts: Counts, table: &[u32; WORDS], tsn: u32) -> Taken
         return Taken::Refused(0);
     }
     let count = counts.count;
-    let at = table::find_tsn(table, TSNS, 0, count, tsn);
+    let at = table_search::find_tsn(table, TSNS, 0, count, tsn);
     if count <= at {
         return Taken::Nothing;
     }
@@ -154,5 +154,5 @@ pub fn contains_stream(counts: Counts, table: &[u32; WORDS], stream: u16) -> Fla
         return Flag::Refused(0);
     }
     let count = counts.count;
-    Flag::Is(table::has_stream(table, TSNS, 0, count, stream))
+    Flag::Is(table_search::has_stream(table, TSNS, 0, count, stream))
 }

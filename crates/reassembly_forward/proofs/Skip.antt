@@ -11,7 +11,7 @@ use lib.Seq.{drop-drop, take-add, take-take, take-all, getD-drop, length-take-le
 use Rattle.wire.specs.BigEndian.{over}
 use Rattle.wire.specs.Facts.{over-length}
 use Rattle.serial.specs.Serial.{atOrBefore}
-use Rattle.table.specs.Lists.{gone}
+use Rattle.moves.specs.Lists.{gone}
 use Rattle.table.specs.Rows.{blank, aheadOf}
 use Rattle.table.specs.declared.Row.{Row}
 use Rattle.table.proofs.Scans.{ahead-within, ahead-more}

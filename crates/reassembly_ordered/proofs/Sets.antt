@@ -12,7 +12,7 @@ use lib.Seq.{length-take-le, take-take, take-at, drop-at, drop-drop}
 use Rattle.wire.specs.Refusal.{none, refuse, says}
 use Rattle.serial.specs.Serial.{before}
 use Rattle.chunk_payload_data.specs.declared.ChunkPayloadData.{ChunkPayloadData}
-use Rattle.table.specs.Lists.{put}
+use Rattle.moves.specs.Lists.{put}
 use Rattle.table.specs.Rows.{row, blank, some, aheadOf, upToLast}
 use Rattle.table.specs.declared.Row.{Row}
 use Rattle.table.proofs.Scans.{ahead-within, last-within}

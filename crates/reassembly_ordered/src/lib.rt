@@ -97,7 +97,7 @@ fn join_set(
     let mut row = record::row_of(chunk, more);
     let first = table::row_at(table, FRAGMENTS, at);
     row.ppi = first.ppi;
-    let place = at + table::walk_back(table, FRAGMENTS, at, run, row.tsn);
+    let place = at + table_search::walk_back(table, FRAGMENTS, at, run, row.tsn);
     let held = queue.finished + (queue.unordered + queue.ordered);
     fragments::put_fragment(
         table,
@@ -143,7 +143,7 @@ pub fn push(
     if serial::sna16lt(ssn, queue.next_ssn) {
         return room::unchanged(queue, Flag::Is(false));
     }
-    if table::has_tsn(table, FRAGMENTS, at, run, chunk.tsn) {
+    if table_search::has_tsn(table, FRAGMENTS, at, run, chunk.tsn) {
         return room::unchanged(queue, Flag::Is(false));
     }
     if !room::has_room(queue, more) {

@@ -8,7 +8,7 @@ use lib.ListN.{length, take, drop}
 use Rattle.wire.specs.BigEndian.{over}
 use Rattle.wire.specs.Refusal.{none, refuse, Told, says}
 use Rattle.serial.specs.Serial.{next, before, atOrBefore}
-use Rattle.table.specs.Lists.{slice, gone}
+use Rattle.moves.specs.Lists.{slice, gone}
 use Rattle.fragments.specs.Frag.{Frag, ends, ssnOf, hasTsn, tsnBefore, tsnAfter, hasSsn}
 use Rattle.fragments.specs.Words.{size, joined, any, while, past, placed}
 use Rattle.fragments.specs.Sets.{setOf, complete, grownSet, stored, skipped}

@@ -8,7 +8,7 @@ use lib.Dec.{ltb, eqb}
 use lib.ListN.{take, drop}
 use Rattle.serial.specs.Serial.{next}
 use Rattle.chunk_payload_data.specs.declared.ChunkPayloadData.{ChunkPayloadData}
-use Rattle.table.specs.Lists.{slice}
+use Rattle.moves.specs.Lists.{slice}
 use Rattle.table.specs.Rows.{aheadOf}
 use Rattle.table.specs.declared.Row.{Row}
 use Rattle.fragments.specs.Frag.{Frag, bare, ofRow, hasSsn, tsnBefore}

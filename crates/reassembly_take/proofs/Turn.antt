@@ -13,7 +13,7 @@ use lib.Seq.{take-take, take-all, drop-cons, length-take-le}
 use Rattle.wire.specs.BigEndian.{over}
 use Rattle.wire.specs.Refusal.{none, refuse, says}
 use Rattle.serial.specs.Serial.{next, before}
-use Rattle.table.specs.Lists.{slice, gone}
+use Rattle.moves.specs.Lists.{slice, gone}
 use Rattle.table.specs.Rows.{blank, aheadOf}
 use Rattle.table.specs.declared.Row.{Row}
 use Rattle.table.proofs.Scans.{ahead-within}

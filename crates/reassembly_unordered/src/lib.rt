@@ -74,7 +74,7 @@ fn store_loose(
     let from = queue.finished;
     let loose = queue.unordered;
     let held = from + (loose + queue.ordered);
-    let place = from + table::walk_back(table, FRAGMENTS, from, loose, row.tsn);
+    let place = from + table_search::walk_back(table, FRAGMENTS, from, loose, row.tsn);
     fragments::put_fragment(
         table,
         FRAGMENTS,
@@ -140,7 +140,7 @@ pub fn push(
     if too_large(queue, table, chunk, more) {
         return room::unchanged(queue, Flag::Refused(6));
     }
-    if table::has_tsn(table, FRAGMENTS, queue.finished, queue.unordered, chunk.tsn) {
+    if table_search::has_tsn(table, FRAGMENTS, queue.finished, queue.unordered, chunk.tsn) {
         return room::unchanged(queue, Flag::Is(false));
     }
     if !room::has_room(queue, more) {

@@ -14,7 +14,7 @@ use Rattle.chunk_payload_data.specs.Layout.{dataValue}
 use Rattle.chunk_payload_data.specs.Data.{identifierName, dataShown, dataRead, userData, dataFlags, dataSent, dataWritten}
 use Rattle.chunk_selective_ack.specs.Layout.{sackValue, blockBytes, gapBlocks, duplicateTsns}
 use Rattle.chunk_selective_ack.specs.Sack.{sackRead, blocksPart, duplicatesPart, sackWritten}
-use Rattle.table.specs.Lists.{put}
+use Rattle.moves.specs.Lists.{put}
 use Rattle.table.specs.Rows as rows
 use Rattle.fragments.specs.Words.{size, joined, any, while, past, find, placed}
 use Rattle.fragments.specs.Sets.{setOf, rises, complete, joins, grownSet, stored}

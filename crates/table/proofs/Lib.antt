@@ -1,7 +1,2 @@
-pub mod Fill
-pub mod Pasted
-pub mod Moves
-pub mod Flip
-pub mod Turned
 pub mod Columns
 pub mod Scans

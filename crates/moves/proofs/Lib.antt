@@ -1,0 +1,5 @@
+pub mod Fill
+pub mod Pasted
+pub mod Moves
+pub mod Flip
+pub mod Turned
