@@ -16,9 +16,9 @@ use Rattle.serial.specs.Serial.{before}
 use Rattle.table.proofs.Columns.{rows-long}
 use Rattle.fragments.specs.Frag.{Frag, ssnOf, hasTsn, rowOf}
 use Rattle.fragments.specs.Words.{size, joined, any}
-use Rattle.fragments.specs.Sets.{setOf}
-use Rattle.fragments.specs.Loose.{reach}
-use Rattle.fragments.specs.declared.loose.Span.{Span}
+use Rattle.fragment_sets.specs.Sets.{setOf}
+use Rattle.loose_fragments.specs.Loose.{reach}
+use Rattle.loose_fragments.specs.declared.Span.{Span}
 use Rattle.fragments.specs.Pool.{cut}
 use Rattle.fragments.proofs.Pool.{joined-length}
 use Rattle.reassembly_state.specs.Limits.{fragsMost, bytesMost}

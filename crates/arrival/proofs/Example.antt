@@ -13,8 +13,8 @@ use Rattle.chunk_payload_data.specs.declared.PayloadProtocolIdentifier.{Payload
 use Rattle.chunk_payload_data.specs.declared.PayloadProtocolIdentifier.the-variants.{Dcep, String, Binary, StringEmpty}
 use Rattle.moves.specs.Lists.{slice, gone}
 use Rattle.fragments.specs.Words.{size, joined, any, while, past, find, placed}
-use Rattle.fragments.specs.Sets.{setOf, rises, complete, joins, grownSet, stored}
-use Rattle.fragments.specs.Loose.{runs, run, reach, startsBy, scan}
+use Rattle.fragment_sets.specs.Sets.{setOf, rises, complete, joins, grownSet, stored}
+use Rattle.loose_fragments.specs.Loose.{runs, run, reach, startsBy, scan}
 use Rattle.reassembly_state.specs.Limits.{fragsMost, bytesMost}
 use Rattle.reassembly_state.specs.Model.{Queue, queue, roomFor, keepOrdered, pushOrdered, moveRun, keepLoose, pushUnordered, push, readySet, movedOn, firstSsn, firstPpi, finishedTurn, orderedTurn, turn, readable}
 use Rattle.reassembly_state.specs.State.{State, fragmentOf, isReadable}

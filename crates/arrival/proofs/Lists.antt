@@ -8,8 +8,9 @@ use Prim.Native.Nat.{ℕ, _+_}
 use native.Mathlib.Omega.{arith}
 use Rattle.fragments.specs.Frag.{Frag, ssnOf, tsnBefore, hasSsn, ssnBefore}
 use Rattle.fragments.specs.Words.{size, any, while, past, find, placed}
-use Rattle.fragments.specs.Sets.{otherSsn, fromSet, setOf, joins, grownSet, stored}
-use Rattle.fragments.proofs.Words.{placed-first, stored-in, stored-new, set-none}
+use Rattle.fragment_sets.specs.Sets.{otherSsn, fromSet, setOf, joins, grownSet, stored}
+use Rattle.fragments.proofs.Words.{placed-first}
+use Rattle.fragment_sets.proofs.Sets.{stored-in, stored-new, set-none}
 
 pub and-both : {s t : Bool} → s ≡ true → t ≡ true → s && t ≡ true
 and-both h k = rw h k

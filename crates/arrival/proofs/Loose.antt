@@ -9,7 +9,7 @@ use lib.ListN.{length, length-append}
 use borrow.Author.Tests.{le-ltb}
 use Rattle.fragments.specs.Frag.{Frag, hasTsn, tsnBefore}
 use Rattle.fragments.specs.Words.{any, placed}
-use Rattle.fragments.specs.Loose.{reach}
+use Rattle.loose_fragments.specs.Loose.{reach}
 use Rattle.reassembly_state.specs.Model.{queue, roomFor}
 use Rattle.arrival.specs.Plan.{Msg, Cut, Whole, chunk}
 use Rattle.arrival.proofs.Lists.{Is, is-append, any-none, placed-at}

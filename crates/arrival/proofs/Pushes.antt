@@ -14,8 +14,8 @@ use Rattle.serial.specs.Serial.{before}
 use Rattle.moves.specs.Lists.{slice, gone}
 use Rattle.fragments.specs.Frag.{Frag, ssnOf, hasTsn, tsnBefore}
 use Rattle.fragments.specs.Words.{size, any, placed}
-use Rattle.fragments.specs.Sets.{setOf, complete, grownSet, stored}
-use Rattle.fragments.specs.Loose.{reach}
+use Rattle.fragment_sets.specs.Sets.{setOf, complete, grownSet, stored}
+use Rattle.loose_fragments.specs.Loose.{reach}
 use Rattle.reassembly_state.specs.Model.{Queue, queue, roomFor, Given, gives, withOrdered, keepOrdered, pushOrdered, moveRun, keepLoose, pushUnordered, push}
 use Rattle.arrival.specs.Plan.{Carried, chunk, afterPush}
 use Rattle.arrival.proofs.Scans.{Scan, nothing, found, seek, spanned, scan-seeks}

@@ -11,7 +11,7 @@ use lib.Seq.{append-snoc}
 use Rattle.serial.specs.Serial.{next}
 use Rattle.fragments.specs.Frag.{Frag, begins, ends, hasTsn}
 use Rattle.fragments.specs.Words.{size, find}
-use Rattle.fragments.specs.Loose.{previous, runs, run, reach}
+use Rattle.loose_fragments.specs.Loose.{previous, runs, run, reach}
 use Rattle.arrival.specs.Plan.{tsnAt, null, Later, Cut}
 use Rattle.arrival.proofs.Lists.{is-append, size-append, find-skip, find-none}
 use Rattle.arrival.proofs.Numbers.{next-at, previous-at, tsn-same}

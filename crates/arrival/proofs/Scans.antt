@@ -11,8 +11,8 @@ use lib.Seq.{append-snoc}
 use borrow.Author.Tests.{lt-ltb, le-ltb}
 use Rattle.serial.specs.Serial.{next}
 use Rattle.fragments.specs.Frag.{Frag, begins, ends, hasTsn}
-use Rattle.fragments.specs.Loose.{span, startsBy, scan, scanned}
-use Rattle.fragments.specs.declared.loose.Span.{Span}
+use Rattle.loose_fragments.specs.Loose.{span, startsBy, scan, scanned}
+use Rattle.loose_fragments.specs.declared.Span.{Span}
 use Rattle.arrival.specs.Plan.{tsnAt, null, Later, Cut}
 use Rattle.arrival.proofs.Lists.{Is, and-both, and-first, and-last, is-append}
 use Rattle.arrival.proofs.Numbers.{next-at}

@@ -10,7 +10,7 @@ use borrow.Author.Tests.{le-ltb, eq-eqb, ne-eqb}
 use Rattle.serial.specs.Serial.{before}
 use Rattle.fragments.specs.Frag.{Frag, ssnOf, hasTsn, tsnBefore, hasSsn, ssnBefore}
 use Rattle.fragments.specs.Words.{size, any, placed}
-use Rattle.fragments.specs.Sets.{setOf, stored}
+use Rattle.fragment_sets.specs.Sets.{setOf, stored}
 use Rattle.reassembly_state.specs.Model.{queue, roomFor}
 use Rattle.arrival.specs.Plan.{Later, Cut, Whole, Numbered, Ordered, chunk}
 use Rattle.arrival.proofs.Lists.{Is, Is-ppi, size-append, is-append, any-none, placed-at, set-at, stored-at}

@@ -10,7 +10,7 @@ use lib.ListN.{length}
 use Rattle.serial.specs.Serial.{next}
 use Rattle.fragments.specs.Frag.{Frag, begins, ends, hasTsn, tsnBefore}
 use Rattle.fragments.specs.Words.{size}
-use Rattle.fragments.specs.Sets.{rises, complete}
+use Rattle.fragment_sets.specs.Sets.{rises, complete}
 use Rattle.arrival.specs.Plan.{tsnAt, null, Later, Cut}
 use Rattle.arrival.proofs.Lists.{and-both, and-first, and-last, Is}
 use Rattle.arrival.proofs.Numbers.{tsn-lt, tsn-ge, tsn-other, tsn-same, next-at}

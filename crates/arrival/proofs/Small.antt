@@ -10,8 +10,8 @@ use Rattle.serial.specs.Serial.{ahead, distance, before}
 use Rattle.moves.specs.Lists.{slice, gone}
 use Rattle.fragments.specs.Frag.{Frag}
 use Rattle.fragments.specs.Words.{size, joined, any, while, past, find, placed}
-use Rattle.fragments.specs.Sets.{setOf, rises, complete, joins, grownSet, stored}
-use Rattle.fragments.specs.Loose.{runs, run, reach, startsBy, scan}
+use Rattle.fragment_sets.specs.Sets.{setOf, rises, complete, joins, grownSet, stored}
+use Rattle.loose_fragments.specs.Loose.{runs, run, reach, startsBy, scan}
 use Rattle.reassembly_state.specs.Model.{queue, roomFor, keepOrdered, pushOrdered, moveRun, keepLoose, pushUnordered, push, readySet, movedOn, firstSsn, firstPpi, orderedTurn, finishedTurn, turn, readable}
 use Rattle.arrival.specs.Plan.{Msg, tsnAt, Plan, Carried, chunk, chunksOf, Event, Push, Take, pushes, final, out, Order, none-left, one-of, Came, starts, Unrefused}
 use Rattle.arrival.proofs.Whole.{arrival, unrefused}

@@ -11,7 +11,7 @@ use borrow.Author.Tests.{lt-ltb, eqb-true}
 use Rattle.serial.specs.Serial.{before}
 use Rattle.fragments.specs.Frag.{Frag, ends, ssnOf, hasSsn}
 use Rattle.fragments.specs.Words.{joined, while}
-use Rattle.fragments.specs.Sets.{complete}
+use Rattle.fragment_sets.specs.Sets.{complete}
 use Rattle.reassembly_state.specs.Model.{Queue, queue, throughEnd, readySet, movedOn, Turn, firstSsn, firstPpi, orderedTurn, finishedTurn, turn, readable}
 use Rattle.arrival.specs.Plan.{null, Later, Cut, Message, afterTake, given}
 use Rattle.arrival.proofs.Lists.{Is, while-is}

@@ -1,5 +1,3 @@
 pub mod Frag
 pub mod Words
-pub mod Sets
-pub mod Loose
 pub mod Pool

@@ -9,10 +9,6 @@ ghost use Rattle.moves.specs.Lists.{put, gone, turned};
 ghost use Rattle.table.specs.Rows.{rowsOf, total};
 ghost use Rattle.fragments.specs.Frag.{longLength, fragOf};
 ghost use Rattle.fragments.specs.Pool.{cut, layRows, layBytes};
-
-pub mod loose;
-pub mod sets;
-
 use table::Row;
 
 // A data length of 24 bits, in the lower bits of a head.

@@ -17,12 +17,12 @@ use Rattle.table.specs.declared.Row.{Row}
 use Rattle.table.proofs.Scans.{ahead-within, ahead-more}
 use Rattle.fragments.specs.Frag.{Frag, ssnOf, hasSsn, rowOf, fragOf, bare, ofRow, longLength}
 use Rattle.fragments.specs.Words.{size, joined, while, past}
-use Rattle.fragments.specs.Sets.{otherSsn, complete, skipped}
+use Rattle.fragment_sets.specs.Sets.{otherSsn, complete, skipped}
 use Rattle.fragments.specs.Pool.{cut, layRows, layBytes}
 use Rattle.fragments.proofs.Pool.{B, total-within, total-take, cut-cons, cut-take, cut-joined, cut-rows, cut-size, joined-append, joined-length, size-append, lay-view}
-use Rattle.fragments.proofs.Words.{skipped-nil, skipped-cons}
-use Rattle.fragments.proofs.Seen.{within-cut, behind-cut, complete-cut}
-use Rattle.fragments.proofs.Complete.{segment-long, segment-rest}
+use Rattle.fragment_sets.proofs.Sets.{skipped-nil, skipped-cons}
+use Rattle.fragment_sets.proofs.Seen.{within-cut, behind-cut, complete-cut}
+use Rattle.fragment_sets.proofs.Complete.{segment-long, segment-rest}
 use Rattle.reassembly_state.specs.Limits.{fragsMost}
 use Rattle.reassembly_state.specs.Model.{dropIncomplete}
 use Rattle.reassembly_state.specs.State.{State, count, fragments, view, counts, lay}

@@ -7,7 +7,7 @@ ghost use lib.ListN.{length, getD, take, drop};
 ghost use Rattle.serial.specs.Serial.{atOrBefore};
 ghost use Rattle.table.specs.Rows.{blank, rowsOf, aheadOf};
 ghost use Rattle.fragments.specs.Frag.{bare, ofRow, ssnOf};
-ghost use Rattle.fragments.specs.Sets.{otherSsn, complete};
+ghost use Rattle.fragment_sets.specs.Sets.{otherSsn, complete};
 ghost use Rattle.reassembly_state.specs.Limits.{fragsMost};
 ghost use Rattle.reassembly_state.specs.Model.{dropIncomplete};
 ghost use Rattle.reassembly_state.specs.Answers.{doneTold};
@@ -26,7 +26,7 @@ fn set_at(table: &[u32], at: usize, n: usize) -> usize
     ensures { λ r. ⌜ r ≡ aheadOf (ofRow (otherSsn (ssnOf (bare (getD (rowsOf fragsMost (now (table .entry))) at blank))))) (take n (drop at (rowsOf fragsMost (now (table .entry))))) ⌝ }
 {
     let first = table::row_at(table, FRAGMENTS, at);
-    fragments::sets::run_ssn(table, FRAGMENTS, at, n, (first.id % 65536) as u16)
+    fragment_sets::run_ssn(table, FRAGMENTS, at, n, (first.id % 65536) as u16)
 }
 
 // Whether the set of k rows at an index is incomplete and at or before an SSN.
@@ -40,7 +40,7 @@ fn passed_over(table: &[u32], at: usize, k: usize, last_ssn: u16) -> bool
     if !serial::sna16lte((first.id % 65536) as u16, last_ssn) {
         return false;
     }
-    !fragments::sets::is_complete(table, FRAGMENTS, at, k)
+    !fragment_sets::is_complete(table, FRAGMENTS, at, k)
 }
 
 // The queue without them: the sets that stay move down, one by one.
@@ -120,13 +120,7 @@ pub fn forward_tsn_for_unordered(
     }
     let count = counts.finished + (counts.unordered + counts.ordered);
     let at = counts.finished;
-    let k = fragments::loose::find_after(
-        table,
-        FRAGMENTS,
-        at,
-        counts.unordered,
-        new_cumulative_tsn,
-    );
+    let k = loose_fragments::find_after(table, FRAGMENTS, at, counts.unordered, new_cumulative_tsn);
     let bytes = fragments::remove_fragments(table, FRAGMENTS, count, pool, counts.n_bytes, at, k);
     let mut queue = counts;
     queue.unordered = queue.unordered - k;

@@ -18,12 +18,14 @@ use Rattle.table.specs.declared.Row.{Row}
 use Rattle.table.proofs.Scans.{ahead-within, last-within}
 use Rattle.fragments.specs.Frag.{Frag, begins, ends, ssnOf, hasTsn, tsnBefore, hasSsn, ssnBefore, bare, ofRow, fragOf}
 use Rattle.fragments.specs.Words.{size, any, placed}
-use Rattle.fragments.specs.Sets.{otherSsn, setOf, rises, complete, joins, grownSet, stored}
+use Rattle.fragment_sets.specs.Sets.{otherSsn, setOf, rises, complete, joins, grownSet, stored}
 use Rattle.fragments.specs.Pool.{cut, layRows, layBytes}
 use Rattle.fragments.proofs.Pool.{B, cut-cons, cut-size, fit-cut, fit-put, laid-view, size-put, total-take, total-within}
-use Rattle.fragments.proofs.Words.{put-behind, put-in-front, set-none}
-use Rattle.fragments.proofs.Seen.{any-cut, aheadOfSet, rowsOfSet, set-cut, stored-set, stored-fresh, grown-cut, complete-cut}
-use Rattle.fragments.proofs.Complete.{segment-rest}
+use Rattle.fragments.proofs.Words.{put-behind, put-in-front}
+use Rattle.fragment_sets.proofs.Sets.{set-none}
+use Rattle.fragments.proofs.Seen.{any-cut}
+use Rattle.fragment_sets.proofs.Seen.{aheadOfSet, rowsOfSet, set-cut, stored-set, stored-fresh, grown-cut, complete-cut}
+use Rattle.fragment_sets.proofs.Complete.{segment-rest}
 use Rattle.reassembly_state.specs.Limits.{fragsMost, bytesMost}
 use Rattle.chunks.specs.Message.{flagTold}
 use Rattle.reassembly_state.specs.Model.{held, withOrdered, Given, gives, roomFor, keepOrdered, pushOrdered}

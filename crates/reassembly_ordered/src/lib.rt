@@ -53,7 +53,7 @@ fn new_set(
     let row = record::row_of(chunk, more);
     let ssn = chunk.stream_sequence_number;
     let from = queue.finished + queue.unordered;
-    let place = from + fragments::sets::place_ssn(table, FRAGMENTS, from, queue.ordered, ssn);
+    let place = from + fragment_sets::place_ssn(table, FRAGMENTS, from, queue.ordered, ssn);
     let held = queue.finished + (queue.unordered + queue.ordered);
     fragments::put_fragment(
         table,
@@ -109,7 +109,7 @@ fn join_set(
         row,
         user_data,
     );
-    let complete = fragments::sets::is_complete(table, FRAGMENTS, at, run + 1);
+    let complete = fragment_sets::is_complete(table, FRAGMENTS, at, run + 1);
     let mut grown = queue;
     grown.ordered = grown.ordered + 1;
     grown.n_bytes = grown.n_bytes + more;
@@ -133,9 +133,9 @@ pub fn push(
 {
     let ssn = chunk.stream_sequence_number;
     let from = queue.finished + queue.unordered;
-    let ahead = fragments::sets::find_ssn(table, FRAGMENTS, from, queue.ordered, ssn);
+    let ahead = fragment_sets::find_ssn(table, FRAGMENTS, from, queue.ordered, ssn);
     let at = from + ahead;
-    let run = fragments::sets::pass_ssn(table, FRAGMENTS, at, queue.ordered - ahead, ssn);
+    let run = fragment_sets::pass_ssn(table, FRAGMENTS, at, queue.ordered - ahead, ssn);
     let more = user_data.len();
     if too_large(queue, table, at, run, more) {
         return room::unchanged(queue, Flag::Refused(6));

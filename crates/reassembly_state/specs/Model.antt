@@ -11,9 +11,9 @@ use Rattle.serial.specs.Serial.{next, before, atOrBefore}
 use Rattle.moves.specs.Lists.{slice, gone}
 use Rattle.fragments.specs.Frag.{Frag, ends, ssnOf, hasTsn, tsnBefore, tsnAfter, hasSsn}
 use Rattle.fragments.specs.Words.{size, joined, any, while, past, placed}
-use Rattle.fragments.specs.Sets.{setOf, complete, grownSet, stored, skipped}
-use Rattle.fragments.specs.Loose.{reach, scanned}
-use Rattle.fragments.specs.declared.loose.Span.{Span}
+use Rattle.fragment_sets.specs.Sets.{setOf, complete, grownSet, stored, skipped}
+use Rattle.loose_fragments.specs.Loose.{reach, scanned}
+use Rattle.loose_fragments.specs.declared.Span.{Span}
 use Rattle.reassembly_state.specs.Limits.{fragsMost, bytesMost}
 
 -- ── what is held ──

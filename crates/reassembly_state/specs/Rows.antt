@@ -13,9 +13,9 @@ use Rattle.table.specs.Rows.{aheadOf}
 use Rattle.table.specs.declared.Row.{Row}
 use Rattle.fragments.specs.Frag.{Frag, bare, ofRow, hasSsn, tsnBefore}
 use Rattle.fragments.specs.Words.{placed}
-use Rattle.fragments.specs.Sets.{otherSsn}
-use Rattle.fragments.specs.Loose.{runDown, runUp, scanned}
-use Rattle.fragments.specs.declared.loose.Span.{Span}
+use Rattle.fragment_sets.specs.Sets.{otherSsn}
+use Rattle.loose_fragments.specs.Loose.{runDown, runUp, scanned}
+use Rattle.loose_fragments.specs.declared.Span.{Span}
 use Rattle.reassembly_state.specs.Model.{Queue, queue, Given, moveRun, turn}
 use Rattle.reassembly_state.specs.State.{State, fragments, view}
 use Rattle.reassembly_state.specs.declared.Counts.{Counts}

@@ -19,12 +19,13 @@ use Rattle.table.specs.declared.Row.{Row}
 use Rattle.table.proofs.Scans.{ahead-within}
 use Rattle.fragments.specs.Frag.{Frag, ends, ssnOf, hasSsn, longLength, fragOf, bare, ofRow}
 use Rattle.fragments.specs.Words.{size, joined, while}
-use Rattle.fragments.specs.Sets.{otherSsn, complete}
-use Rattle.fragments.specs.Loose.{span}
+use Rattle.fragment_sets.specs.Sets.{otherSsn, complete}
+use Rattle.loose_fragments.specs.Loose.{span}
 use Rattle.fragments.specs.Pool.{cut, layRows, layBytes}
-use Rattle.fragments.specs.declared.loose.Span.{Span}
+use Rattle.loose_fragments.specs.declared.Span.{Span}
 use Rattle.fragments.proofs.Pool.{B, cut-cons, cut-length, cut-take, cut-size, cut-joined, size-gone, total-take, total-up}
-use Rattle.fragments.proofs.Seen.{while-length, within-cut, complete-cut}
+use Rattle.fragments.proofs.Seen.{while-length}
+use Rattle.fragment_sets.proofs.Seen.{within-cut, complete-cut}
 use Rattle.reassembly_state.specs.Limits.{fragsMost}
 use Rattle.reassembly_state.specs.Model.{Queue, queue, held, endless, readySet, movedOn, Turn, firstSsn, firstPpi, orderedTurn, finishedTurn, turn, throughEnd, readable, Message, noMessage, messageOf, taken}
 use Rattle.reassembly_state.specs.State.{State, count, fragments, view, counts, lay, reads, shown, layTaken}

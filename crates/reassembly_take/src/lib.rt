@@ -14,7 +14,7 @@ ghost use Rattle.reassembly_state.specs.Answers.{messageHeld, tookTold};
 use chunk_payload_data::PayloadProtocolIdentifier;
 use chunks::Chunks;
 use chunks::Flag;
-use fragments::loose::Span;
+use loose_fragments::Span;
 use reassembly_state::Counts;
 use reassembly_state::FRAGMENTS;
 use reassembly_state::Taken;
@@ -36,8 +36,8 @@ fn ready(queue: Counts, table: &[u32]) -> usize
     if serial::sna16lt(queue.next_ssn, ssn) {
         return 0;
     }
-    let run = fragments::sets::run_ssn(table, FRAGMENTS, from, queue.ordered, ssn);
-    if fragments::sets::is_complete(table, FRAGMENTS, from, run) {
+    let run = fragment_sets::run_ssn(table, FRAGMENTS, from, queue.ordered, ssn);
+    if fragment_sets::is_complete(table, FRAGMENTS, from, run) {
         return run;
     }
     0
@@ -50,7 +50,7 @@ fn in_turn(queue: Counts, table: &[u32]) -> Span
     ensures { λ r. ⌜ ((pool : List ℕ) → InTurn (stateOf queue (now (table .entry)) pool) r) ⌝ }
 {
     if 0 < queue.finished {
-        let end = fragments::sets::find_end(table, FRAGMENTS, 0, queue.finished) + 1;
+        let end = fragment_sets::find_end(table, FRAGMENTS, 0, queue.finished) + 1;
         if end <= queue.finished {
             return Span { from: 0, to: end };
         }

@@ -15,8 +15,8 @@ use Rattle.chunk_payload_data.specs.declared.ChunkPayloadData.{ChunkPayloadData
 use Rattle.table.specs.Rows.{total}
 use Rattle.fragments.specs.Frag.{Frag, ssnOf, hasTsn, rowOf}
 use Rattle.fragments.specs.Words.{size, joined, any}
-use Rattle.fragments.specs.Sets.{setOf}
-use Rattle.fragments.specs.Loose.{reach}
+use Rattle.fragment_sets.specs.Sets.{setOf}
+use Rattle.loose_fragments.specs.Loose.{reach}
 use Rattle.fragments.proofs.Pool.{Fit, fit-cut, joined-length}
 use Rattle.reassembly_state.specs.Limits.{fragsMost, bytesMost}
 use Rattle.reassembly_state.specs.Model.{Queue, held, Given, roomFor, keepOrdered, keepLoose, pushOrdered, pushUnordered, push, turn, readable, Took, taken, skipOrdered, skipUnordered}

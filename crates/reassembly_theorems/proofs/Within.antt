@@ -12,12 +12,13 @@ use Rattle.moves.specs.Lists.{slice, gone}
 use Rattle.moves.proofs.Turned.{turned-long}
 use Rattle.fragments.specs.Frag.{Frag, ssnOf, hasSsn, tsnBefore, ssnBefore}
 use Rattle.fragments.specs.Words.{size, any, while, past, placed, concat}
-use Rattle.fragments.specs.Sets.{otherSsn, fromSet, setOf, complete, grownSet, joins, stored, ahead, sets, setUpTo, keptSets, skipped}
-use Rattle.fragments.specs.Loose.{scanned}
-use Rattle.fragments.specs.declared.loose.Span.{Span}
+use Rattle.fragment_sets.specs.Sets.{otherSsn, fromSet, setOf, complete, grownSet, joins, stored, ahead, sets, setUpTo, keptSets, skipped}
+use Rattle.loose_fragments.specs.Loose.{scanned}
+use Rattle.loose_fragments.specs.declared.Span.{Span}
 use Rattle.fragments.proofs.Pool.{Fit, fit-append, fit-turned, size-append, size-turned}
-use Rattle.fragments.proofs.Words.{stored-in, stored-new, while-past}
-use Rattle.fragments.proofs.Scan.{scan-within}
+use Rattle.fragments.proofs.Words.{while-past}
+use Rattle.fragment_sets.proofs.Sets.{stored-in, stored-new}
+use Rattle.loose_fragments.proofs.Scanned.{scan-within}
 use Rattle.reassembly_state.specs.Model.{Queue, queue, held, gives, keepOrdered, moveRun, keepLoose, throughEnd, readySet, orderedTurn, finishedTurn, turn, skipOrdered, notAfter, skipUnordered}
 use Rattle.reassembly_state.proofs.Parts.{turned-middle}
 

@@ -19,13 +19,14 @@ use Rattle.table.proofs.Scans.{last-within}
 use Rattle.moves.proofs.Turned.{turned-long}
 use Rattle.fragments.specs.Frag.{Frag, bare, ofRow, begins, ends, hasTsn, tsnBefore}
 use Rattle.fragments.specs.Words.{size, any, placed}
-use Rattle.fragments.specs.Loose.{runDown, runUp, reach, scanned, previous}
-use Rattle.fragments.specs.declared.loose.Span.{Span}
+use Rattle.loose_fragments.specs.Loose.{runDown, runUp, reach, scanned, previous}
+use Rattle.loose_fragments.specs.declared.Span.{Span}
 use Rattle.fragments.specs.Pool.{cut, layRows, layBytes}
-use Rattle.fragments.proofs.Reach.{total-most, both-runs}
+use Rattle.loose_fragments.proofs.Reach.{total-most, both-runs}
 use Rattle.fragments.proofs.Pool.{B, total-take, total-within, Fit, fit-cut, fit-put, cut-length, size-put, size-turned}
-use Rattle.fragments.proofs.Seen.{any-cut, placed-cut, run-cut, scan-cut}
-use Rattle.fragments.proofs.Scan.{scan-within}
+use Rattle.fragments.proofs.Seen.{any-cut, placed-cut}
+use Rattle.loose_fragments.proofs.Seen.{run-cut, scan-cut}
+use Rattle.loose_fragments.proofs.Scanned.{scan-within}
 use Rattle.reassembly_state.specs.Limits.{fragsMost, bytesMost}
 use Rattle.reassembly_state.specs.Model.{Given, Queue, queue, held, gives, roomFor, moveRun, keepLoose, pushUnordered}
 use Rattle.reassembly_state.specs.State.{State, count, unsound, fragments, view, counts, lay, after, laid, fragmentOf}

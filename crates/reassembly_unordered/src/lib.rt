@@ -31,13 +31,13 @@ fn reach(queue: Counts, table: &[u32], chunk: ChunkPayloadData) -> usize
         if chunk.ending_fragment {
             return 0;
         }
-        return fragments::loose::run_up(table, FRAGMENTS, from, loose, chunk.tsn);
+        return loose_fragments::run_up(table, FRAGMENTS, from, loose, chunk.tsn);
     }
-    let down = fragments::loose::run_down(table, FRAGMENTS, from, loose, chunk.tsn);
+    let down = loose_fragments::run_down(table, FRAGMENTS, from, loose, chunk.tsn);
     if chunk.ending_fragment {
         return down;
     }
-    let up = fragments::loose::run_up(table, FRAGMENTS, from, loose, chunk.tsn);
+    let up = loose_fragments::run_up(table, FRAGMENTS, from, loose, chunk.tsn);
     down + up
 }
 
@@ -99,7 +99,7 @@ fn settle(queue: Counts, table: &mut [u32], pool: &mut [u8]) -> Pushed
 {
     let from = queue.finished;
     let loose = queue.unordered;
-    let whole = fragments::loose::scan(table, FRAGMENTS, from, loose);
+    let whole = loose_fragments::scan(table, FRAGMENTS, from, loose);
     let start = whole.from;
     let end = whole.to;
     if start == end {

@@ -9,8 +9,8 @@ use denote.Ref.{RefT}
 use Rattle.serial.specs.Serial.{ahead, distance, before}
 use Rattle.chunk_payload_data.specs.Data.{dataFlags, dataSent}
 use Rattle.fragments.specs.Words.{size, any, while, past, find, placed}
-use Rattle.fragments.specs.Sets.{setOf, rises, complete, joins, grownSet, stored}
-use Rattle.fragments.specs.Loose.{runs, run, reach, startsBy, scan}
+use Rattle.fragment_sets.specs.Sets.{setOf, rises, complete, joins, grownSet, stored}
+use Rattle.loose_fragments.specs.Loose.{runs, run, reach, startsBy, scan}
 use Rattle.reassembly_state.specs.Limits.{fragsMost, bytesMost}
 use Rattle.reassembly_state.specs.Model.{Queue, queue, roomFor, keepOrdered, pushOrdered, moveRun, keepLoose, pushUnordered, push}
 use Rattle.reassembly_state.specs.State.{fragmentOf}

@@ -17,8 +17,8 @@ use Rattle.chunk_selective_ack.specs.Sack.{sackRead, blocksPart, duplicatesPart
 use Rattle.moves.specs.Lists.{put}
 use Rattle.table.specs.Rows as rows
 use Rattle.fragments.specs.Words.{size, joined, any, while, past, find, placed}
-use Rattle.fragments.specs.Sets.{setOf, rises, complete, joins, grownSet, stored}
-use Rattle.fragments.specs.Loose.{runs, run, reach, startsBy, scan}
+use Rattle.fragment_sets.specs.Sets.{setOf, rises, complete, joins, grownSet, stored}
+use Rattle.loose_fragments.specs.Loose.{runs, run, reach, startsBy, scan}
 use Rattle.payload_model.specs.Queue as queue
 use Rattle.gap_report.specs.Gap as gap
 use Rattle.payload_model.specs.GapCall.{gapReport}

@@ -8,7 +8,7 @@ use lib.ListN.{length, take, drop}
 use Rattle.table.specs.Rows.{tsnBefore}
 use Rattle.table.proofs.Columns.{rows-long}
 use Rattle.table.proofs.Scans.{last-within}
-use Rattle.fragments.proofs.Complete.{segment-long}
+use Rattle.fragment_sets.proofs.Complete.{segment-long}
 use Rattle.reassembly_state.specs.Limits.{fragsMost, bytesMost}
 use Rattle.reassembly_state.specs.State.{State, stateOf, count}
 use Rattle.reassembly_state.specs.Rows.{setAt, setRun}

@@ -10,7 +10,7 @@ use lib.ListN.{length, take, drop}
 use Rattle.table.specs.Rows.{rowsOf}
 use Rattle.table.proofs.Columns.{rows-long}
 use Rattle.fragments.specs.Frag.{ofRow}
-use Rattle.fragments.specs.Sets.{otherSsn}
+use Rattle.fragment_sets.specs.Sets.{otherSsn}
 use Rattle.reassembly_state.specs.Limits.{fragsMost}
 use Rattle.reassembly_state.specs.Model.{readySet}
 use Rattle.reassembly_state.specs.State.{State, stateOf, view}

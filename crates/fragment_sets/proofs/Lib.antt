@@ -1,0 +1,4 @@
+pub mod Sets
+pub mod Seen
+pub mod Complete
+pub mod Together

@@ -1,0 +1,4 @@
+pub mod Seen
+pub mod Run
+pub mod Reach
+pub mod Scanned
