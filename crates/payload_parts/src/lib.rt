@@ -1,4 +1,4 @@
-// What the calls of the TSN queue are made of: the test of its counts, the log, records, and the calls that only tell a count.
+// What the calls of the TSN queue are made of: records, and the log.
 ghost use mathlib.Core.Path.{_≡_};
 ghost use mathlib.Core.List.{List};
 ghost use Prim.Native.Nat.{ℕ, _*_, _≤_};
@@ -6,17 +6,13 @@ ghost use lib.ListN.{length, take};
 ghost use Rattle.wire.specs.BigEndian.{over};
 ghost use Rattle.table.specs.Rows.{rowsOf, kept};
 ghost use Rattle.payload_model.specs.Limits.{tsnsMost, logMost};
-ghost use Rattle.payload_model.specs.Queue.{queueOf, unsound, logged, staysAfter, zeros, counted, isEmpty, numBytes};
-ghost use Rattle.payload_model.specs.Answers.{flagTold, numberTold};
+ghost use Rattle.payload_model.specs.Queue.{queueOf, logged, staysAfter, zeros};
 
 pub mod record;
 
 use payload_model::Counts;
-use payload_model::Flag;
 use payload_model::LOG;
-use payload_model::Number;
 use payload_model::TSNS;
-use payload_model::WORDS;
 
 // The first n places of the log, and zeros.
 pub fn handed(log: [u32; LOG], n: usize) -> [u32; LOG]
@@ -52,22 +48,6 @@ pub fn keep_after(table: &mut [u32], n: usize, tsn: u32) -> usize
     left
 }
 
-// Refusal 0: a count above its table, or a byte count that is not the sum of the held lengths.
-pub fn unsound(counts: Counts, table: &[u32]) -> bool
-    requires { ⌜ length (now table) ≡ 4 * tsnsMost ⌝ }
-    ensures { λ r. ⌜ r ≡ unsound (queueOf counts (now (table .entry))) ⌝ }
-{
-    let count = counts.count;
-    if TSNS < count {
-        return true;
-    }
-    if LOG < counts.dups {
-        return true;
-    }
-    let sum = table::sum_short(table, TSNS, 0, count);
-    sum != counts.n_bytes
-}
-
 // The queue with a TSN logged, where the log has room.
 pub fn logged(counts: Counts, tsn: u32) -> Counts
     ensures { λ r. ⌜ ((ws : List ℕ) → queueOf r ws ≡ logged (queueOf counts ws) tsn) ⌝ }
@@ -80,34 +60,4 @@ pub fn logged(counts: Counts, tsn: u32) -> Counts
     queue.dup_tsn[at] = tsn;
     queue.dups = at + 1;
     queue
-}
-
-// The sum of the held data lengths.
-pub fn get_num_bytes(counts: Counts, table: &[u32; WORDS]) -> Number
-    ensures { λ r. ⌜ numberTold r ≡ numBytes (queueOf counts (now (table .entry))) ⌝ }
-{
-    if unsound(counts, table) {
-        return Number::Refused(0);
-    }
-    Number::Is(counts.n_bytes)
-}
-
-// How many TSNs are held.
-pub fn len(counts: Counts, table: &[u32; WORDS]) -> Number
-    ensures { λ r. ⌜ numberTold r ≡ counted (queueOf counts (now (table .entry))) ⌝ }
-{
-    if unsound(counts, table) {
-        return Number::Refused(0);
-    }
-    Number::Is(counts.count)
-}
-
-// Whether none is held.
-pub fn is_empty(counts: Counts, table: &[u32; WORDS]) -> Flag
-    ensures { λ r. ⌜ flagTold r ≡ isEmpty (queueOf counts (now (table .entry))) ⌝ }
-{
-    if unsound(counts, table) {
-        return Flag::Refused(0);
-    }
-    Flag::Is(counts.count == 0)
 }

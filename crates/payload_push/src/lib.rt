@@ -13,7 +13,7 @@ use payload_model::WORDS;
 pub fn can_push(counts: Counts, table: &[u32; WORDS], tsn: u32, cumulative: u32) -> Flag
     ensures { λ r. ⌜ flagTold r ≡ canPush (queueOf counts (now (table .entry))) tsn cumulative ⌝ }
 {
-    if payload_parts::unsound(counts, table) {
+    if payload_counts::unsound(counts, table) {
         return Flag::Refused(0);
     }
     let count = counts.count;
@@ -33,7 +33,7 @@ pub fn push(
 ) -> Pushed
     ensures { λ r. ⌜ after (flagTold (r .answer)) (queueOf (r .queue) (now (table .exit))) ≡ pushed (queueOf counts (now (table .entry))) (rowOf chunk size) cumulative ⌝ }
 {
-    if payload_parts::unsound(counts, table) {
+    if payload_counts::unsound(counts, table) {
         return Pushed {
             answer: Flag::Refused(0),
             queue: counts,

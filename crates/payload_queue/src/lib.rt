@@ -139,7 +139,7 @@ impl PayloadQueue {
     pub fn get(self, table: &[u32; WORDS], tsn: u32) -> Taken
         ensures { λ r. ⌜ takenTold r ≡ got (queueOf self (now (table .entry))) tsn ⌝ }
     {
-        payload_take::get(self.counts(), table, tsn)
+        payload_look::get(self.counts(), table, tsn)
     }
 
     // Hands out the log of duplicates, and empties it.
@@ -166,41 +166,41 @@ impl PayloadQueue {
     ) -> Number
         ensures { λ r. ⌜ lists (numberTold r) (now (starts .exit)) (now (ends .exit)) ≡ gapReport (queueOf self (now (table .entry))) cumulative (now (starts .entry)) (now (ends .entry)) ⌝ }
     {
-        payload_take::get_gap_ack_blocks(self.counts(), table, cumulative, starts, ends)
+        payload_look::get_gap_ack_blocks(self.counts(), table, cumulative, starts, ends)
     }
 
     // The TSN that stands last.
     pub fn get_last_tsn_received(self, table: &[u32; WORDS]) -> LastTsn
         ensures { λ r. ⌜ lastTold r ≡ lastTsn (queueOf self (now (table .entry))) ⌝ }
     {
-        payload_take::get_last_tsn_received(self.counts(), table)
+        payload_look::get_last_tsn_received(self.counts(), table)
     }
 
     // The sum of the held data lengths.
     pub fn get_num_bytes(self, table: &[u32; WORDS]) -> Number
         ensures { λ r. ⌜ numberTold r ≡ numBytes (queueOf self (now (table .entry))) ⌝ }
     {
-        payload_parts::get_num_bytes(self.counts(), table)
+        payload_counts::get_num_bytes(self.counts(), table)
     }
 
     // How many TSNs are held.
     pub fn len(self, table: &[u32; WORDS]) -> Number
         ensures { λ r. ⌜ numberTold r ≡ counted (queueOf self (now (table .entry))) ⌝ }
     {
-        payload_parts::len(self.counts(), table)
+        payload_counts::len(self.counts(), table)
     }
 
     // Whether none is held.
     pub fn is_empty(self, table: &[u32; WORDS]) -> Flag
         ensures { λ r. ⌜ flagTold r ≡ isEmpty (queueOf self (now (table .entry))) ⌝ }
     {
-        payload_parts::is_empty(self.counts(), table)
+        payload_counts::is_empty(self.counts(), table)
     }
 
     // Whether a chunk of this stream is held.
     pub fn contains_stream(self, table: &[u32; WORDS], stream: u16) -> Flag
         ensures { λ r. ⌜ flagTold r ≡ containsStream (queueOf self (now (table .entry))) stream ⌝ }
     {
-        payload_take::contains_stream(self.counts(), table, stream)
+        payload_look::contains_stream(self.counts(), table, stream)
     }
 }

@@ -1,11 +1,11 @@
--- `payload_parts::get_num_bytes` meets its contract: an unsound queue is refused, and else the held records say.
+-- `payload_counts::get_num_bytes` meets its contract: an unsound queue is refused, and else the held records say.
 -- Assumes nothing.
 use mathlib.Core.Path.{sym, _∙_}
 use borrow.Author.Needs.{needs}
 use Rattle.payload_model.proofs.Laws.{sound}
 use Rattle.payload_model.specs.Queue.{numBytes}
-use Rattle.payload_parts.proofs.get_num_bytes.Statement.{statement}
-use Rattle.payload_parts.proofs.get_num_bytes.Tie as tie
+use Rattle.payload_counts.proofs.get_num_bytes.Statement.{statement}
+use Rattle.payload_counts.proofs.get_num_bytes.Tie as tie
 
 refused : tie.Need-returns
 unfolding numBytes

@@ -1,10 +1,10 @@
--- `payload_parts::is_empty` meets its contract: an unsound queue is refused, and else the held records say.
+-- `payload_counts::is_empty` meets its contract: an unsound queue is refused, and else the held records say.
 -- Assumes nothing.
 use mathlib.Core.Path.{sym, _∙_}
 use borrow.Author.Needs.{needs}
 use Rattle.payload_model.specs.Queue.{isEmpty}
-use Rattle.payload_parts.proofs.is_empty.Statement.{statement}
-use Rattle.payload_parts.proofs.is_empty.Tie as tie
+use Rattle.payload_counts.proofs.is_empty.Statement.{statement}
+use Rattle.payload_counts.proofs.is_empty.Tie as tie
 
 refused : tie.Need-returns
 unfolding isEmpty

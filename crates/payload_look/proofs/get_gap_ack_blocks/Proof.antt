@@ -1,4 +1,4 @@
--- `payload_take::get_gap_ack_blocks` meets its contract: an unsound queue is refused, and else the walk over the held records says.
+-- `payload_look::get_gap_ack_blocks` meets its contract: an unsound queue is refused, and else the walk over the held records says.
 -- Assumes nothing.
 use mathlib.Core.Path.{_≡_, sym, ap, _∙_}
 use borrow.Author.Needs.{needs}
@@ -6,8 +6,8 @@ use native.Mathlib.Omega.{arith}
 use Rattle.gap_report.specs.Gap.{Report}
 use Rattle.payload_model.specs.GapCall.{lists, reportTold, gapReport}
 use Rattle.payload_model.proofs.Laws.{sound}
-use Rattle.payload_take.proofs.get_gap_ack_blocks.Statement.{statement}
-use Rattle.payload_take.proofs.get_gap_ack_blocks.Tie as tie
+use Rattle.payload_look.proofs.get_gap_ack_blocks.Statement.{statement}
+use Rattle.payload_look.proofs.get_gap_ack_blocks.Tie as tie
 
 refused : tie.Need-returns
 unfolding gapReport

@@ -1,4 +1,4 @@
--- `payload_take::get` meets its contract: an unsound queue is refused, and else the first held record with the TSN is given.
+-- `payload_look::get` meets its contract: an unsound queue is refused, and else the first held record with the TSN is given.
 -- Assumes nothing.
 use mathlib.Core.Path.{_≡_, sym, ap, _∙_}
 use mathlib.Core.Bool.{true, false}
@@ -14,8 +14,8 @@ use Rattle.payload_model.specs.Limits.{tsnsMost}
 use Rattle.payload_model.specs.Queue.{Queue, queueOf, held, got}
 use Rattle.payload_model.proofs.Laws.{Sound, sound}
 use Rattle.table.proofs.Scans.{some-ahead}
-use Rattle.payload_take.proofs.get.Statement.{statement}
-use Rattle.payload_take.proofs.get.Tie as tie
+use Rattle.payload_look.proofs.get.Statement.{statement}
+use Rattle.payload_look.proofs.get.Tie as tie
 
 -- the queue that is lent
 abbrev of : tie.Else1 → Queue

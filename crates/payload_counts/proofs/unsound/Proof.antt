@@ -1,10 +1,10 @@
--- `payload_parts::unsound` meets its contract: each count is tested, then the sum.
+-- `payload_counts::unsound` meets its contract: each count is tested, then the sum.
 -- Assumes nothing.
 use borrow.Author.Needs.{needs}
 use borrow.Author.Tests.{lt-ltb, le-ltb}
 use Rattle.payload_model.specs.Queue.{unsound}
-use Rattle.payload_parts.proofs.unsound.Statement.{statement}
-use Rattle.payload_parts.proofs.unsound.Tie as tie
+use Rattle.payload_counts.proofs.unsound.Statement.{statement}
+use Rattle.payload_counts.proofs.unsound.Tie as tie
 
 pub unsound-spec : {M : Type 1} → statement M
 unfolding unsound

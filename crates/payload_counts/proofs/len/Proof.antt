@@ -1,10 +1,10 @@
--- `payload_parts::len` meets its contract: an unsound queue is refused, and else the held records say.
+-- `payload_counts::len` meets its contract: an unsound queue is refused, and else the held records say.
 -- Assumes nothing.
 use mathlib.Core.Path.{sym, _∙_}
 use borrow.Author.Needs.{needs}
 use Rattle.payload_model.specs.Queue.{counted}
-use Rattle.payload_parts.proofs.len.Statement.{statement}
-use Rattle.payload_parts.proofs.len.Tie as tie
+use Rattle.payload_counts.proofs.len.Statement.{statement}
+use Rattle.payload_counts.proofs.len.Tie as tie
 
 refused : tie.Need-returns
 unfolding counted
