@@ -1,11 +1,11 @@
 /*
  * sctp_receive.h: the receive part of SCTP, proved, for C.
  *
- * Every function here is proved (crates/sctp_receive) to answer and to leave exactly what document 01 says, for any contents of
- * what it is lent. It allocates nothing, keeps nothing between calls, always returns, and reads and writes only what it is
- * lent. Different data may be used from different threads at once.
+ * Every function here is proved (crates/sctp_receive) to answer and to leave exactly what documents 01 and 02 say, for any
+ * contents of what it is lent. It allocates nothing, keeps nothing between calls, always returns, and reads and writes only
+ * what it is lent. Different data may be used from different threads at once.
  *
- * THE RESULT is an int32_t: SCTP_RECEIVE_OK (-1) where nothing was refused, else the number of document 01's refusal, below.
+ * THE RESULT is an int32_t: SCTP_RECEIVE_OK (-1) where nothing was refused, else the number of the documents' refusal, below.
  * A refusal changes nothing that is lent, but for 7, which leaves what fits of the message in `out`. Out values (the last
  * parameters, `bool *is`, `size_t *n` and the like) are always written: beside a refusal they are 0 and false, and so
  * they are where a call answers "not found" (`*found` is false).
@@ -48,6 +48,7 @@ extern "C" {
 #define SCTP_RECEIVE_TOO_LONG 9         /* writers: more than a chunk can hold, or lists of unequal length */
 #define SCTP_RECEIVE_NO_ROOM 10         /* write or take buffer, or a gap report list, too short */
 #define SCTP_RECEIVE_PAST_THE_LIST 11   /* list index at or past its count */
+#define SCTP_RECEIVE_BAD_FORWARD 12     /* FORWARD TSN length below 8, or not 8 plus a multiple of 4 */
 
 /* ---- sizes ---- */
 
@@ -122,6 +123,21 @@ int32_t sctp_receive_sack_marshal_to(uint8_t *out, size_t out_len, uint32_t cumu
                                      const uint16_t *starts, size_t starts_len, const uint16_t *ends, size_t ends_len,
                                      const uint32_t *duplicates, size_t duplicates_len, size_t *n);
 
+/* The new cumulative TSN of a FORWARD TSN chunk (RFC 3758), and how many pairs of a stream and an SSN stand behind it. Its flags are
+ * ignored. Refuses 1, 2, 3, 12. */
+int32_t sctp_receive_forward_tsn_unmarshal(const uint8_t *raw, size_t raw_len, uint32_t *new_cumulative_tsn, uint16_t *streams);
+
+/* Where its pairs stand: `*size` bytes from raw + *start on. Refuses 1, 2, 3, 12. */
+int32_t sctp_receive_forward_tsn_streams(const uint8_t *raw, size_t raw_len, size_t *start, size_t *size);
+
+/* The stream and the SSN at an index of such a part. Refuses 11. */
+int32_t sctp_receive_forward_tsn_stream_at(const uint8_t *part, size_t part_len, size_t i, uint16_t *identifier, uint16_t *sequence);
+
+/* Writes a FORWARD TSN chunk. Refuses 9 (more than 16,381 pairs, or lists of unequal length), 10. */
+int32_t sctp_receive_forward_tsn_marshal_to(uint8_t *out, size_t out_len, uint32_t new_cumulative_tsn,
+                                            const uint16_t *identifiers, size_t identifiers_len,
+                                            const uint16_t *sequences, size_t sequences_len, size_t *n);
+
 /* ---- the TSN queue: which TSNs came, in which order they stand, and which came twice ----
  * Its numbers: TSNs held, the sum of their data lengths, logged duplicates; the log; the table. Every call refuses 0. */
 
@@ -152,6 +168,12 @@ int32_t sctp_receive_payload_queue_pop(size_t *count, size_t *n_bytes, size_t *d
 /* Drops every TSN at or before this one. */
 int32_t sctp_receive_payload_queue_pop_up_to(size_t *count, size_t *n_bytes, size_t *dups, uint32_t dup_tsn[SCTP_RECEIVE_LOG],
                                              uint32_t table[SCTP_RECEIVE_TSN_WORDS], uint32_t tsn);
+
+/* Applies a FORWARD TSN chunk: drops every TSN at or before its new cumulative TSN. Where that is at or before the cumulative TSN,
+ * nothing changes. */
+int32_t sctp_receive_forward_tsn_apply_to_tsns(size_t *count, size_t *n_bytes, size_t *dups, uint32_t dup_tsn[SCTP_RECEIVE_LOG],
+                                               uint32_t table[SCTP_RECEIVE_TSN_WORDS],
+                                               uint32_t cumulative_tsn, uint32_t new_cumulative_tsn);
 
 /* Hands out the log: all 64 places, unused ones 0, and how many are used; and empties it. */
 int32_t sctp_receive_payload_queue_pop_duplicates(size_t *count, size_t *n_bytes, size_t *dups,
@@ -235,6 +257,15 @@ int32_t sctp_receive_reassembly_queue_forward_tsn_for_unordered(uint16_t *si, ui
                                                                 size_t *finished, size_t *unordered, size_t *ordered,
                                                                 size_t *n_bytes, uint32_t table[SCTP_RECEIVE_FRAGMENT_WORDS],
                                                                 uint8_t *pool, size_t pool_len, uint32_t new_cumulative_tsn);
+
+/* Applies a FORWARD TSN chunk: the ordered skip for each pair of its part `streams` that names the stream, in their order, then one
+ * unordered skip. Bytes behind the last whole pair are ignored. Where its new cumulative TSN is at or before the cumulative TSN,
+ * nothing changes. */
+int32_t sctp_receive_forward_tsn_apply_to_stream(uint16_t *si, uint16_t *next_ssn, uint32_t *max_message_size,
+                                                 size_t *finished, size_t *unordered, size_t *ordered, size_t *n_bytes,
+                                                 uint32_t table[SCTP_RECEIVE_FRAGMENT_WORDS], uint8_t *pool, size_t pool_len,
+                                                 uint32_t cumulative_tsn, uint32_t new_cumulative_tsn,
+                                                 const uint8_t *streams, size_t streams_len);
 
 /* The number of bytes held. */
 int32_t sctp_receive_reassembly_queue_get_num_bytes(uint16_t si, uint16_t next_ssn, uint32_t max_message_size,

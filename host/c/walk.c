@@ -1,8 +1,9 @@
 /*
  * walk.c: the C interface, walked through once. An image goes out in four DATA chunks and arrives out of order, over the wrap of the
  * TSNs, one chunk twice. Each chunk is read and pushed to the TSN queue and to reassembly; the gap report goes into a SACK,
- * which is read back. Then the message is taken and read, whole and in pieces. Every answer is checked: the last line says
- * how many, and the program ends with 1 where one is not what document 01 says.
+ * which is read back. Then the message is taken and read, whole and in pieces. Of the next message one piece comes, and the
+ * sender gives it up: its FORWARD TSN is read and applied to both queues. Every answer is checked: the last line says how many,
+ * and the program ends with 1 where one is not what documents 01 and 02 say.
  */
 #include <stdio.h>
 #include <string.h>
@@ -241,9 +242,48 @@ static void read_message(void)
     same("the image, piece by piece", memcmp(joined, image, sizeof image), 0);
 }
 
+/* Applies a FORWARD TSN chunk to both queues: its point and its pairs, beside the cumulative TSN that was. */
+static void apply(uint32_t cumulative, uint32_t point, const uint8_t *pairs, size_t size)
+{
+    int32_t k = sctp_receive_forward_tsn_apply_to_tsns(&q.count, &q.n_bytes, &q.dups, q.log, q.table, cumulative, point);
+    same("TSN queue, FORWARD TSN applied", k, SCTP_RECEIVE_OK);
+    k = sctp_receive_forward_tsn_apply_to_stream(&r.si, &r.next_ssn, &r.max_message_size, &r.finished, &r.unordered, &r.ordered,
+                                                 &r.n_bytes, r.table, r.pool, sizeof r.pool, cumulative, point, pairs, size);
+    same("reassembly, FORWARD TSN applied", k, SCTP_RECEIVE_OK);
+}
+
+/* One piece of the next message comes, behind a gap, and the sender gives the message up. */
+static void give_up(void)
+{
+    static const uint16_t streams[] = {STREAM + 1, STREAM}, ssns[] = {9, 1};
+    struct chunk piece = {false, true, false, false, 3, STREAM, 1, SCTP_RECEIVE_BINARY, (const uint8_t *)image, 8};
+    uint8_t raw[CHUNK];
+    uint32_t point;
+    uint16_t pairs, stream, ssn;
+    size_t size, start, part;
+    bool whole;
+    same("a piece behind a gap", push(&piece, &whole), true);
+    same("FORWARD TSN is written", sctp_receive_forward_tsn_marshal_to(raw, sizeof raw, 3, streams, 2, ssns, 2, &size), SCTP_RECEIVE_OK);
+    same("FORWARD TSN is read", sctp_receive_forward_tsn_unmarshal(raw, size, &point, &pairs), SCTP_RECEIVE_OK);
+    same("its pairs are found", sctp_receive_forward_tsn_streams(raw, size, &start, &part), SCTP_RECEIVE_OK);
+    printf("FORWARD TSN %lu,", (unsigned long)point);
+    for (size_t i = 0; sctp_receive_forward_tsn_stream_at(raw + start, part, i, &stream, &ssn) == SCTP_RECEIVE_OK; i++) {
+        printf(" stream %u to SSN %u", stream, ssn);
+        same("the pair", stream == streams[i] && ssn == ssns[i], true);
+    }
+    printf(" (%lu bytes)\n", (unsigned long)size);
+    same("bytes, pairs, and 0 past them", (long long)(size + pairs + stream + ssn), 16 + 2);
+    apply(point, point, raw + start, part);
+    same("an old point changes nothing", (long long)(q.count + r.n_bytes + r.next_ssn), 1 + 8 + 1);
+    apply(q.cumulative, point, raw + start, part);
+    same("a new one: nothing stays held", (long long)(q.count + q.n_bytes + r.ordered + r.n_bytes), 0);
+    same("and SSN 2 is expected", r.next_ssn, 2);
+}
+
 /* What must be refused, and leaves all as it was. */
 static void refused(void)
 {
+    static const uint8_t half[] = {192, 0, 0, 10, 0, 0, 0, 3, 0, 2};
     uint8_t typ, flags;
     uint16_t size, blocks, duplicates;
     uint32_t cumulative, window;
@@ -253,6 +293,8 @@ static void refused(void)
     same("a length above what is lent", sctp_receive_header_unmarshal(wire[0], 16, &typ, &flags, &size), SCTP_RECEIVE_BAD_LENGTH);
     same("DATA, and a SACK is asked for", sctp_receive_sack_unmarshal(wire[0], CHUNK, &cumulative, &window, &blocks, &duplicates),
          SCTP_RECEIVE_OTHER_TYPE);
+    same("half a pair", sctp_receive_forward_tsn_unmarshal(half, sizeof half, &cumulative, &blocks), SCTP_RECEIVE_BAD_FORWARD);
+    same("and 0 beside it", (long long)cumulative + blocks, 0);
     same("a count above the table",
          sctp_receive_payload_queue_len(SCTP_RECEIVE_TSNS + 1, q.n_bytes, q.dups, q.log, q.table, &n), SCTP_RECEIVE_UNSOUND);
     same("and 0 beside it", (long long)n, 0);
@@ -279,6 +321,7 @@ int main(void)
     arrive(1, true, true, &after[4]);
     take();
     read_message();
+    give_up();
     refused();
     printf("%u checks, %u wrong\n", checks, wrong);
     return wrong == 0 ? 0 : 1;

@@ -15,10 +15,12 @@ use Rattle.chunk_payload_data.specs.Data.{DataValues, DataFront, dataRead, data
 use Rattle.chunk_payload_data.specs.declared.ChunkPayloadData.{ChunkPayloadData}
 use Rattle.chunk_selective_ack.specs.Layout.{Sack, sack, Block, block}
 use Rattle.chunk_selective_ack.specs.Sack.{SackFront, sackRead, sackWritten, BlockFront, blockRead, TsnFront, tsnRead}
-use Rattle.chunk_theorems.proofs.Fronts.{header-some, data-some, sack-some, block-some, tsn-some}
+use Rattle.chunk_forward_tsn.specs.Layout.{Pair, pair}
+use Rattle.chunk_forward_tsn.specs.ForwardTsn.{Forward, forward, ForwardFront, forwardRead, PairFront, pairRead, forwardWritten}
+use Rattle.chunk_theorems.proofs.Fronts.{header-some, data-some, sack-some, block-some, tsn-some, forward-some, pair-some}
 use Rattle.sctp_receive_model.specs.Result.{told}
 use Rattle.sctp_receive_model.specs.Fields.{valuesFrom}
-use Rattle.sctp_receive_model.specs.Places.{Span, span, userSpan, blocksSpan, duplicatesSpan}
+use Rattle.sctp_receive_model.specs.Places.{Span, span, userSpan, blocksSpan, duplicatesSpan, pairsSpan}
 use Rattle.one_answer.proofs.Only.{Only, named-one}
 use Rattle.one_answer.proofs.C.{Said, Word, read-one, Wrote, wrote-one}
 
@@ -85,6 +87,15 @@ module _ (raw : List ℕ) (by : Bytes raw) where
   pub c-sack-duplicate-tsn-at-one : (i : ℕ) → Only (λ (o : Said ℕ). Word (o .result) × ((f : TsnFront raw i) → told (o .result) (o .values) ≡ tsnRead raw i (f .fields)))
   c-sack-duplicate-tsn-at-one i = read-one (tsn-some raw i by)
 
+  pub c-forward-tsn-unmarshal-one : Only (λ (o : Said Forward). Word (o .result) × ((f : ForwardFront raw) → told (o .result) (forward (o .values .point) (o .values .pairs)) ≡ forwardRead (length raw) (f .fields)))
+  c-forward-tsn-unmarshal-one = read-one (forward-some raw by)
+
+  pub c-forward-tsn-streams-one : Only (λ (o : Said Span). Word (o .result) × ((f : ForwardFront raw) → told (o .result) (span (o .values .start) (o .values .size)) ≡ pairsSpan (length raw) (f .fields .header)))
+  c-forward-tsn-streams-one = read-one (forward-some raw by)
+
+  pub c-forward-tsn-stream-at-one : (i : ℕ) → Only (λ (o : Said Pair). Word (o .result) × ((f : PairFront raw i) → told (o .result) (pair (o .values .stream) (o .values .ssn)) ≡ pairRead raw i (f .fields)))
+  c-forward-tsn-stream-at-one i = read-one (pair-some raw i by)
+
 -- ── the writers ──
 
 pub c-data-marshal-to-one : (chunk : ChunkPayloadData) (user out : List ℕ)
@@ -94,3 +105,7 @@ c-data-marshal-to-one chunk user out = wrote-one
 pub c-sack-marshal-to-one : (cumulative window : ℕ) (starts ends duplicates out : List ℕ)
     → Only (λ (o : Wrote). Word (o .said .result) × (written (told (o .said .result) (o .said .values)) (o .out) ≡ sackWritten cumulative window starts ends duplicates out))
 c-sack-marshal-to-one cumulative window starts ends duplicates out = wrote-one
+
+pub c-forward-tsn-marshal-to-one : (point : ℕ) (streams ssns out : List ℕ)
+    → Only (λ (o : Wrote). Word (o .said .result) × (written (told (o .said .result) (o .said .values)) (o .out) ≡ forwardWritten point streams ssns out))
+c-forward-tsn-marshal-to-one point streams ssns out = wrote-one

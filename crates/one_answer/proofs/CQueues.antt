@@ -8,6 +8,7 @@ use mathlib.Core.List.{List}
 use Prim.Native.Nat.{ℕ}
 use lib.IntN.{ℤ}
 use Rattle.wire.specs.Refusal.{Told, written}
+use Rattle.wire.proofs.Exists.{Bytes}
 use Rattle.chunk_payload_data.specs.declared.ChunkPayloadData.{ChunkPayloadData}
 use Rattle.payload_model.specs.Queue.{After, after, Queue, Found, Last, Handed, rowOf, pushed, canPush, popped, poppedUpTo, poppedDuplicates, got, containsStream, counted, isEmpty, numBytes, lastTsn}
 use Rattle.payload_model.specs.GapCall.{Lists, lists, gapReport}
@@ -20,6 +21,8 @@ use Rattle.reassembly_state.specs.State as rq
 use Rattle.reassembly_queue.specs.Queue as rq-struct
 use Rattle.reassembly_queue.specs.Queue.{stateOf}
 use Rattle.reassembly_queue.specs.declared.ReassemblyQueue.{ReassemblyQueue}
+use Rattle.forward_tsn.specs.Applied.{Pairs, appliedToStream, appliedToTsns}
+use Rattle.forward_theorems.proofs.Pairs.{pairs-some}
 use Rattle.sctp_receive_model.specs.Result.{told, done}
 use Rattle.sctp_receive_model.specs.States.{handFrom}
 use Rattle.one_answer.proofs.Only.{Only, named-one, both}
@@ -71,6 +74,10 @@ module _ (self : PayloadQueue) (table : List ℕ) where
   pub c-payload-queue-pop-up-to-one : (tsn : ℕ) → Only (λ (o : TsnsLeft ℤ). Word (o .said) × (TsnWords (o .table)
       × (after (done (o .said)) (queueOf (o .queue) (o .table)) ≡ poppedUpTo (queueOf self table) tsn)))
   c-payload-queue-pop-up-to-one tsn = tsns-done-one
+
+  pub c-forward-tsn-apply-to-tsns-one : («cumulative_tsn» «new_cumulative_tsn» : ℕ) → Only (λ (o : TsnsLeft ℤ). Word (o .said) × (TsnWords (o .table)
+      × (after (done (o .said)) (queueOf (o .queue) (o .table)) ≡ appliedToTsns (queueOf self table) «cumulative_tsn» «new_cumulative_tsn»)))
+  c-forward-tsn-apply-to-tsns-one «cumulative_tsn» «new_cumulative_tsn» = tsns-done-one
 
   pub c-payload-queue-pop-duplicates-one : Only (λ (o : LogLeft). Word (o .said .result)
       × (after (told (o .said .result) (o .said .values)) (queueOf (o .queue) table) ≡ poppedDuplicates (queueOf self table)))
@@ -132,6 +139,12 @@ module _ (self : ReassemblyQueue) (table pool : List ℕ) where
   pub c-reassembly-queue-forward-tsn-for-unordered-one : («new_cumulative_tsn» : ℕ) → Only (λ (o : FragmentsLeft ℤ). Word (o .said) × (FragmentWords (o .table)
       × (rq.after (done (o .said)) (stateOf (o .queue) (o .table) (o .pool)) ≡ rq.forwardUnordered (stateOf self table pool) «new_cumulative_tsn»)))
   c-reassembly-queue-forward-tsn-for-unordered-one «new_cumulative_tsn» = fragments-done-one
+
+  pub c-forward-tsn-apply-to-stream-one : («cumulative_tsn» «new_cumulative_tsn» : ℕ) (streams : List ℕ) → Bytes streams → Only (λ (o : FragmentsLeft ℤ). Word (o .said) × (FragmentWords (o .table)
+      × ((f : Pairs streams) → rq.after (done (o .said)) (stateOf (o .queue) (o .table) (o .pool)) ≡ appliedToStream (stateOf self table pool) «cumulative_tsn» «new_cumulative_tsn» (f .streams) (f .ssns))))
+  c-forward-tsn-apply-to-stream-one «cumulative_tsn» «new_cumulative_tsn» streams by r s p q =
+      let f = pairs-some streams by in
+      fragments-done-one r s (p .0, (p .1 .0, p .1 .1 f)) (q .0, (q .1 .0, q .1 .1 f))
 
   pub c-reassembly-queue-get-num-bytes-one : Only (λ (o : Said ℕ). Word (o .result) × (told (o .result) (o .values) ≡ rq.numBytes (stateOf self table pool)))
   c-reassembly-queue-get-num-bytes-one = said-one

@@ -4,6 +4,7 @@
 ghost use mathlib.Core.Path.{_≡_};
 ghost use Rattle.reassembly_state.specs.State.{after, pushed, isReadable, reads, read, forwardOrdered, forwardUnordered, numBytes};
 ghost use Rattle.reassembly_queue.specs.Queue.{fresh};
+ghost use Rattle.forward_tsn.specs.Applied.{Pairs, appliedToStream};
 ghost use Rattle.sctp_receive_model.specs.Result.{told, done};
 ghost use Rattle.sctp_receive_model.specs.Fields.{chunkFrom};
 ghost use Rattle.sctp_receive_model.specs.States.{fragmentCounts, stateFrom, messageFrom};
@@ -259,6 +260,41 @@ pub extern "C" fn sctp_receive_reassembly_queue_forward_tsn_for_unordered(
     );
     let answer = forwarded.answer;
     sctp_receive_fragments::forwarded(answer)
+}
+
+// Applies a FORWARD TSN chunk: the ordered skip for each pair of its part that names the stream, in their order, then one unordered skip;
+// nothing where its new cumulative TSN is at or before the cumulative one.
+#[no_mangle]
+pub extern "C" fn sctp_receive_forward_tsn_apply_to_stream(
+    si: &mut u16,
+    next_ssn: &mut u16,
+    max_message_size: &mut u32,
+    finished: &mut usize,
+    unordered: &mut usize,
+    ordered: &mut usize,
+    n_bytes: &mut usize,
+    table: &mut [u32; WORDS],
+    pool: &mut [u8],
+    cumulative_tsn: u32,
+    new_cumulative_tsn: u32,
+    streams: &[u8],
+) -> i32
+    ensures { λ r. ⌜ ((f : Pairs (now (streams .entry))) → after (done r) (stateFrom (now (si .exit)) (now («next_ssn» .exit)) (now («max_message_size» .exit)) (now (finished .exit)) (now (unordered .exit)) (now (ordered .exit)) (now («n_bytes» .exit)) (now (table .exit)) (now (pool .exit))) ≡ appliedToStream (stateFrom (now (si .entry)) (now («next_ssn» .entry)) (now («max_message_size» .entry)) (now (finished .entry)) (now (unordered .entry)) (now (ordered .entry)) (now («n_bytes» .entry)) (now (table .entry)) (now (pool .entry))) «cumulative_tsn» «new_cumulative_tsn» (f .streams) (f .ssns)) ⌝ }
+{
+    sctp_receive_forward::apply_to_stream(
+        si,
+        next_ssn,
+        max_message_size,
+        finished,
+        unordered,
+        ordered,
+        n_bytes,
+        table,
+        pool,
+        cumulative_tsn,
+        new_cumulative_tsn,
+        streams,
+    )
 }
 
 // The number of bytes held.

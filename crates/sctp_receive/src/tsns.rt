@@ -3,6 +3,7 @@
 ghost use mathlib.Core.Path.{_≡_};
 ghost use Rattle.payload_model.specs.Queue.{after, rowOf, pushed, canPush, popped, poppedUpTo, poppedDuplicates};
 ghost use Rattle.payload_queue.specs.Queue.{fresh};
+ghost use Rattle.forward_tsn.specs.Applied.{appliedToTsns};
 ghost use Rattle.sctp_receive_model.specs.Result.{told, done};
 ghost use Rattle.sctp_receive_model.specs.Fields.{chunkFrom, valuesFrom, foundFrom};
 ghost use Rattle.sctp_receive_model.specs.States.{tsnCounts, tsnsFrom, handedFrom};
@@ -155,6 +156,30 @@ pub extern "C" fn sctp_receive_payload_queue_pop_up_to(
         Done::All => -1,
         Done::Refused(k) => k as i32,
     }
+}
+
+// Applies a FORWARD TSN chunk: drops every TSN at or before its new cumulative one; nothing where that is at or before the cumulative one.
+#[no_mangle]
+pub extern "C" fn sctp_receive_forward_tsn_apply_to_tsns(
+    count: &mut usize,
+    n_bytes: &mut usize,
+    dups: &mut usize,
+    dup_tsn: &mut [u32; LOG],
+    table: &mut [u32; WORDS],
+    cumulative_tsn: u32,
+    new_cumulative_tsn: u32,
+) -> i32
+    ensures { λ r. ⌜ after (done r) (tsnsFrom (now (count .exit)) (now («n_bytes» .exit)) (now (dups .exit)) (now («dup_tsn» .exit)) (now (table .exit))) ≡ appliedToTsns (tsnsFrom (now (count .entry)) (now («n_bytes» .entry)) (now (dups .entry)) (now («dup_tsn» .entry)) (now (table .entry))) «cumulative_tsn» «new_cumulative_tsn» ⌝ }
+{
+    sctp_receive_forward::apply_to_tsns(
+        count,
+        n_bytes,
+        dups,
+        dup_tsn,
+        table,
+        cumulative_tsn,
+        new_cumulative_tsn,
+    )
 }
 
 // Hands out the log of duplicates, all 64 places, unused ones 0, with its count, and empties it.

@@ -9,6 +9,8 @@ ghost use Rattle.sctp_receive_model.specs.Places.{span, userSpan};
 use chunk::Marshalled;
 use chunk::chunk_header;
 
+pub mod forward_tsn;
+
 // A chunk's byte count.
 pub fn marshalled(answer: Marshalled, n: &mut usize) -> i32
     ensures { λ r. ⌜ told (back r) (now (n .exit)) ≡ marshalTold answer ⌝ }

@@ -19,8 +19,9 @@ use Rattle.chunk.specs.Part.{Part, partOf}
 use Rattle.chunk_payload_data.specs.Data.{dataChecks, userData}
 use Rattle.chunk_selective_ack.specs.Layout.{Sack}
 use Rattle.chunk_selective_ack.specs.Sack.{sackChecks, blocksPart, duplicatesPart}
+use Rattle.chunk_forward_tsn.specs.ForwardTsn.{forwardChecks, pairsPart}
 use Rattle.sctp_receive_model.specs.Result.{refusalOf}
-use Rattle.sctp_receive_model.specs.Places.{Span, span, userSpan, blocksSpan, duplicatesSpan}
+use Rattle.sctp_receive_model.specs.Places.{Span, span, userSpan, blocksSpan, duplicatesSpan, pairsSpan}
 
 -- ── no two results of 32 bits say the same ──
 
@@ -69,3 +70,7 @@ blocks-span-is raw h = placed (first (sackChecks (length (raw .now)) h)) _ _ raw
 pub duplicates-span-is : (raw : RefT (List ℕ)) (h : Headed Sack) → partAt (duplicatesSpan (length (raw .now)) h) raw ≡ duplicatesPart raw h
 unfolding duplicatesSpan duplicatesPart
 duplicates-span-is raw h = placed (first (sackChecks (length (raw .now)) h)) _ _ raw
+
+pub pairs-span-is : (raw : RefT (List ℕ)) (h : Header) → partAt (pairsSpan (length (raw .now)) h) raw ≡ pairsPart raw h
+unfolding pairsSpan pairsPart
+pairs-span-is raw h = placed (first (forwardChecks (length (raw .now)) h)) _ _ raw

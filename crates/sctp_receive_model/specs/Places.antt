@@ -7,6 +7,7 @@ use Rattle.chunk.specs.Header.{Headed}
 use Rattle.chunk_payload_data.specs.Data.{dataChecks}
 use Rattle.chunk_selective_ack.specs.Layout.{Sack}
 use Rattle.chunk_selective_ack.specs.Sack.{sackChecks}
+use Rattle.chunk_forward_tsn.specs.ForwardTsn.{forwardChecks}
 
 pub record Span : Type 0 where
   pub start : ℕ
@@ -26,3 +27,7 @@ blocksSpan lent h = answer (span 0 0) (first (sackChecks lent h)) (span 16 (4 * 
 -- X duplicates of 4 bytes behind them
 unfoldable pub duplicatesSpan : ℕ → Headed Sack → Told Span
 duplicatesSpan lent h = answer (span 0 0) (first (sackChecks lent h)) (span (16 + 4 * h .fields .blocks) (4 * h .fields .duplicates))
+
+-- pairs of FORWARD TSN "from byte 8 up to the length"; refused by its checks
+unfoldable pub pairsSpan : ℕ → Header → Told Span
+pairsSpan lent h = answer (span 0 0) (first (forwardChecks lent h)) (span 8 (h .size - 8))

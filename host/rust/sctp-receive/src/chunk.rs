@@ -38,7 +38,7 @@ impl From<u32> for PayloadProtocolIdentifier {
 /// The header of a chunk: type, flags, and the length, which counts these 4 bytes and the value, not padding.
 #[derive(Clone, Copy, Debug, Default, PartialEq, Eq, Hash)]
 pub struct ChunkHeader {
-    /// 0 is DATA, 3 is SACK.
+    /// 0 is DATA, 3 is SACK, 192 is FORWARD TSN.
     pub typ: u8,
     /// As they stand.
     pub flags: u8,
@@ -205,6 +205,71 @@ impl DuplicateTsns<'_> {
     /// All of them, in order.
     #[inline]
     pub fn iter(&self) -> impl Iterator<Item = u32> {
+        (0..).map_while(|i| self.at(i).ok())
+    }
+}
+
+/// A FORWARD TSN chunk (RFC 3758) before its pairs: the new cumulative TSN, and how many pairs there are.
+#[derive(Clone, Copy, Debug, Default, PartialEq, Eq, Hash)]
+pub struct ChunkForwardTsn {
+    /// Every TSN up to this one has come, or is given up.
+    pub new_cumulative_tsn: u32,
+    /// The number of pairs of a stream and an SSN.
+    pub streams: u16,
+}
+
+impl ChunkForwardTsn {
+    /// The fields of the FORWARD TSN chunk that the bytes begin with. Its flags are ignored.
+    #[inline]
+    pub fn unmarshal(raw: &[u8]) -> Result<Self, Error> {
+        let mut f = Self::default();
+        Error::check(ffi::forward_tsn::unmarshal(raw, &mut f.new_cumulative_tsn, &mut f.streams))?;
+        Ok(f)
+    }
+
+    /// The pairs of the FORWARD TSN chunk that the bytes begin with: a part of them.
+    #[inline]
+    pub fn streams(raw: &[u8]) -> Result<ForwardTsnStreams<'_>, Error> {
+        let (mut start, mut size) = (0, 0);
+        Error::check(ffi::forward_tsn::streams(raw, &mut start, &mut size))?;
+        Ok(ForwardTsnStreams(&raw[start..start + size]))
+    }
+
+    /// Writes a FORWARD TSN chunk of this point and these streams and SSNs to the front of `out`, and answers its byte count. The rest of `out`
+    /// stays.
+    #[inline]
+    pub fn marshal_to(out: &mut [u8], new_cumulative_tsn: u32, identifiers: &[u16], sequences: &[u16]) -> Result<usize, Error> {
+        let mut n = 0;
+        Error::check(ffi::forward_tsn::marshal_to(out, new_cumulative_tsn, identifiers, sequences, &mut n))?;
+        Ok(n)
+    }
+}
+
+/// A stream, and the largest SSN that is skipped in it.
+#[derive(Clone, Copy, Debug, Default, PartialEq, Eq, Hash)]
+pub struct ChunkForwardTsnStream {
+    /// The stream.
+    pub identifier: u16,
+    /// The SSN.
+    pub sequence: u16,
+}
+
+/// The pairs of a lent FORWARD TSN chunk.
+#[derive(Clone, Copy, Debug, PartialEq, Eq, Hash)]
+pub struct ForwardTsnStreams<'a>(pub &'a [u8]);
+
+impl ForwardTsnStreams<'_> {
+    /// The pair at an index.
+    #[inline]
+    pub fn at(&self, i: usize) -> Result<ChunkForwardTsnStream, Error> {
+        let mut s = ChunkForwardTsnStream::default();
+        Error::check(ffi::forward_tsn::stream_at(self.0, i, &mut s.identifier, &mut s.sequence))?;
+        Ok(s)
+    }
+
+    /// All of them, in order.
+    #[inline]
+    pub fn iter(&self) -> impl Iterator<Item = ChunkForwardTsnStream> {
         (0..).map_while(|i| self.at(i).ok())
     }
 }

@@ -1,7 +1,7 @@
-//! Refusals, by document 01's numbers.
+//! Refusals, by the numbers of documents 01 and 02.
 use core::fmt;
 
-/// Why a call said no. `as i32` is document 01's number. A refusal changes nothing; [`Error::ShortBuffer`] alone leaves what fits of the
+/// Why a call said no. `as i32` is the documents' number. A refusal changes nothing; [`Error::ShortBuffer`] alone leaves what fits of the
 /// message in the buffer.
 #[derive(Clone, Copy, Debug, PartialEq, Eq, Hash)]
 #[repr(i32)]
@@ -12,7 +12,7 @@ pub enum Error {
     NoHeader = 1,
     /// 2: chunk length below 4 or above the bytes lent.
     BadLength = 2,
-    /// 3: not the type asked for (sctp-proto: `ErrChunkTypeNotPayloadData`, `ErrChunkTypeNotSack`).
+    /// 3: not the type asked for (sctp-proto: `ErrChunkTypeNotPayloadData`, `ErrChunkTypeNotSack`, `ErrChunkTypeNotForwardTsn`).
     ChunkTypeNotAskedFor = 3,
     /// 4: DATA length below 16 (`ErrChunkPayloadSmall`).
     ChunkPayloadSmall = 4,
@@ -24,17 +24,19 @@ pub enum Error {
     ShortBuffer = 7,
     /// 8: the table or the pool has no room left.
     Full = 8,
-    /// 9: DATA above 65,519 bytes, SACK above 16,379 entries, or start and end lists of unequal length.
+    /// 9: DATA above 65,519 bytes, SACK above 16,379 entries, FORWARD TSN above 16,381 pairs, or lists of unequal length that belong together.
     TooLong = 9,
     /// 10: write or take buffer, or a gap report list, too short.
     NoRoom = 10,
     /// 11: list index at or past its count.
     PastTheList = 11,
+    /// 12: FORWARD TSN length below 8, or not 8 plus a multiple of 4 (`ErrChunkTooShort`).
+    ChunkTooShort = 12,
 }
 
 impl Error {
     /// Every refusal, at the place of its number.
-    pub const ALL: [Error; 12] = [
+    pub const ALL: [Error; 13] = [
         Error::Unsound,
         Error::NoHeader,
         Error::BadLength,
@@ -47,15 +49,16 @@ impl Error {
         Error::TooLong,
         Error::NoRoom,
         Error::PastTheList,
+        Error::ChunkTooShort,
     ];
 
-    /// What a result of the library says: -1 is `Ok`. It is proved to have no other numbers than document 01's.
+    /// What a result of the library says: -1 is `Ok`. It is proved to have no other numbers than the documents'.
     #[inline]
     pub(crate) fn check(result: i32) -> Result<(), Error> {
         if result == -1 {
             return Ok(());
         }
-        debug_assert!((0..12).contains(&result), "document 01 has no refusal {result}");
+        debug_assert!((0..13).contains(&result), "the documents have no refusal {result}");
         Err(usize::try_from(result).ok().and_then(|k| Self::ALL.get(k)).copied().unwrap_or(Error::Unsound))
     }
 }
@@ -75,6 +78,7 @@ impl fmt::Display for Error {
             Error::TooLong => "longer than a chunk can be, or lists of unequal length",
             Error::NoRoom => "the buffer or list is too short",
             Error::PastTheList => "past the end of the list",
+            Error::ChunkTooShort => "FORWARD TSN shorter than 8 bytes, or with a part of a pair",
         })
     }
 }

@@ -5,6 +5,8 @@
 //! reference gives: it is aligned and not null, what is behind it is there, and nothing else reaches what a `&mut` lends.
 use crate::chunk::ChunkPayloadData;
 
+pub(crate) mod forward_tsn;
+
 /// TSNs that a [`PayloadQueue`](crate::PayloadQueue) holds.
 pub const TSNS: usize = 256;
 /// Duplicates that it logs.
@@ -45,6 +47,8 @@ unsafe extern "C" {
         stream_identifier: &mut u16, stream_sequence_number: &mut u16, payload_type: &mut u32, size: &mut u16) -> i32;
     pub(crate) safe fn sctp_receive_payload_queue_pop_up_to(count: &mut usize, n_bytes: &mut usize, dups: &mut usize,
         dup_tsn: &mut [u32; LOG], table: &mut [u32; TSN_WORDS], tsn: u32) -> i32;
+    pub(crate) safe fn sctp_receive_forward_tsn_apply_to_tsns(count: &mut usize, n_bytes: &mut usize, dups: &mut usize,
+        dup_tsn: &mut [u32; LOG], table: &mut [u32; TSN_WORDS], cumulative_tsn: u32, new_cumulative_tsn: u32) -> i32;
     pub(crate) safe fn sctp_receive_payload_queue_pop_duplicates(count: &mut usize, n_bytes: &mut usize, dups: &mut usize,
         dup_tsn: &mut [u32; LOG], table: &[u32; TSN_WORDS], n: &mut usize, tsns: &mut [u32; LOG]) -> i32;
     pub(crate) safe fn sctp_receive_payload_queue_get(count: usize, n_bytes: usize, dups: usize, dup_tsn: &[u32; LOG],
@@ -81,6 +85,12 @@ unsafe extern "C" {
     fn sctp_receive_sack_duplicate_tsn_at(part: *const u8, part_len: usize, i: usize, tsn: &mut u32) -> i32;
     fn sctp_receive_sack_marshal_to(out: *mut u8, out_len: usize, cumulative: u32, window: u32, starts: *const u16,
         starts_len: usize, ends: *const u16, ends_len: usize, duplicates: *const u32, duplicates_len: usize, n: &mut usize) -> i32;
+    fn sctp_receive_forward_tsn_unmarshal(raw: *const u8, raw_len: usize, new_cumulative_tsn: &mut u32, streams: &mut u16) -> i32;
+    fn sctp_receive_forward_tsn_streams(raw: *const u8, raw_len: usize, start: &mut usize, size: &mut usize) -> i32;
+    fn sctp_receive_forward_tsn_stream_at(part: *const u8, part_len: usize, i: usize, identifier: &mut u16,
+        sequence: &mut u16) -> i32;
+    fn sctp_receive_forward_tsn_marshal_to(out: *mut u8, out_len: usize, new_cumulative_tsn: u32, identifiers: *const u16,
+        identifiers_len: usize, sequences: *const u16, sequences_len: usize, n: &mut usize) -> i32;
     fn sctp_receive_payload_queue_get_gap_ack_blocks(count: usize, n_bytes: usize, dups: usize, dup_tsn: &[u32; LOG],
         table: &[u32; TSN_WORDS], cumulative: u32, starts: *mut u16, starts_len: usize, ends: *mut u16, ends_len: usize,
         n: &mut usize) -> i32;
@@ -101,6 +111,10 @@ unsafe extern "C" {
     fn sctp_receive_reassembly_queue_forward_tsn_for_unordered(si: &mut u16, next_ssn: &mut u16, max_message_size: &mut u32,
         finished: &mut usize, unordered: &mut usize, ordered: &mut usize, n_bytes: &mut usize, table: &mut [u32; FRAGMENT_WORDS],
         pool: *mut u8, pool_len: usize, new_cumulative_tsn: u32) -> i32;
+    fn sctp_receive_forward_tsn_apply_to_stream(si: &mut u16, next_ssn: &mut u16, max_message_size: &mut u32,
+        finished: &mut usize, unordered: &mut usize, ordered: &mut usize, n_bytes: &mut usize, table: &mut [u32; FRAGMENT_WORDS],
+        pool: *mut u8, pool_len: usize, cumulative_tsn: u32, new_cumulative_tsn: u32, streams: *const u8,
+        streams_len: usize) -> i32;
     fn sctp_receive_reassembly_queue_get_num_bytes(si: u16, next_ssn: u16, max_message_size: u32, finished: usize, unordered: usize,
         ordered: usize, n_bytes: usize, table: &[u32; FRAGMENT_WORDS], pool: *const u8, pool_len: usize, n: &mut usize) -> i32;
     fn sctp_receive_chunks_len(bytes: usize, position: usize, given: bool, buffer: *const u8, buffer_len: usize,

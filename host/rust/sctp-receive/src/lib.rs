@@ -1,6 +1,6 @@
-//! The receive part of SCTP for Rust programs, over the proved library `libsctp_receive.a`: DATA and SACK chunks, the TSN queue with its gap report, reassembly
-//! of one stream, and the message in hand. Names are those of sctp-proto. Each call is proved, in Rattle, to answer and to leave exactly what
-//! document 01 says; this crate owns the tables, lends them to the library, and adds no rule of its own.
+//! The receive part of SCTP for Rust programs, over the proved library `libsctp_receive.a`: DATA, SACK and FORWARD TSN chunks, the TSN queue with its gap
+//! report, reassembly of one stream, and the message in hand. Names are those of sctp-proto. Each call is proved, in Rattle, to answer and to leave exactly what
+//! documents 01 and 02 say; this crate owns the tables, lends them to the library, and adds no rule of its own.
 //!
 //! No allocation, no dependency, no `std`; all `unsafe` stands in one private module, `ffi`.
 //!
@@ -48,7 +48,10 @@ pub mod serial;
 #[cfg(test)]
 mod unsound;
 
-pub use chunk::{ChunkHeader, ChunkPayloadData, ChunkSelectiveAck, DuplicateTsns, GapAckBlock, GapAckBlocks, PayloadProtocolIdentifier};
+pub use chunk::{
+    ChunkForwardTsn, ChunkForwardTsnStream, ChunkHeader, ChunkPayloadData, ChunkSelectiveAck, DuplicateTsns, ForwardTsnStreams,
+    GapAckBlock, GapAckBlocks, PayloadProtocolIdentifier,
+};
 pub use error::Error;
 pub use ffi::{BYTES, FRAGMENTS, LOG, TSNS};
 pub use payload_queue::{Duplicates, PayloadQueue, Queued};

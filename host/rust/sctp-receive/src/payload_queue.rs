@@ -139,6 +139,22 @@ impl PayloadQueue {
         never_refused(result);
     }
 
+    /// Applies a FORWARD TSN chunk: drops every TSN at or before its new cumulative one; nothing where that is at or before the cumulative one.
+    #[inline]
+    pub fn apply_forward_tsn(&mut self, cumulative_tsn: u32, new_cumulative_tsn: u32) {
+        let q = self;
+        let result = ffi::sctp_receive_forward_tsn_apply_to_tsns(
+            &mut q.count,
+            &mut q.n_bytes,
+            &mut q.dups,
+            &mut q.dup_tsn,
+            &mut q.table,
+            cumulative_tsn,
+            new_cumulative_tsn,
+        );
+        never_refused(result);
+    }
+
     /// The chunk that is held with this TSN.
     #[inline]
     pub fn get(&self, tsn: u32) -> Option<Queued> {

@@ -1,7 +1,7 @@
 //! Reassembly of one stream, and the message in hand.
 use crate::ffi::{self, BYTES, FRAGMENT_WORDS, Hand, Numbers};
 use crate::payload_queue::never_refused;
-use crate::{ChunkPayloadData, Error, PayloadProtocolIdentifier};
+use crate::{ChunkPayloadData, Error, ForwardTsnStreams, PayloadProtocolIdentifier};
 
 /// Fragments to messages, for one stream: at most 128 fragments and 32,768 payload bytes are held. It is some 35 KB large: a `static` or a field is the place for it.
 #[derive(Clone, Debug)]
@@ -70,6 +70,14 @@ impl ReassemblyQueue {
         let result =
             ffi::reassembly_queue_forward_tsn_for_unordered(&mut self.numbers, &mut self.table, &mut self.pool, new_cumulative_tsn);
         never_refused(result);
+    }
+
+    /// Applies a FORWARD TSN chunk: the ordered skip for each pair that names the stream, in their order, then one unordered skip; nothing where its
+    /// new cumulative TSN is at or before the cumulative one.
+    #[inline]
+    pub fn apply_forward_tsn(&mut self, cumulative_tsn: u32, new_cumulative_tsn: u32, streams: ForwardTsnStreams<'_>) {
+        let points = (cumulative_tsn, new_cumulative_tsn);
+        never_refused(ffi::forward_tsn::apply_to_stream(&mut self.numbers, &mut self.table, &mut self.pool, points, streams.0));
     }
 
     /// The number of bytes held.

@@ -100,6 +100,7 @@ fn tsn_calls_that_change() {
         );
         assert_eq!((result, is), (0, false));
         assert_eq!(ffi::sctp_receive_payload_queue_pop_up_to(&mut q.0, &mut q.1, &mut q.2, &mut q.3, &mut q.4, 1), 0);
+        assert_eq!(ffi::sctp_receive_forward_tsn_apply_to_tsns(&mut q.0, &mut q.1, &mut q.2, &mut q.3, &mut q.4, 0, 1), 0);
         let result = ffi::sctp_receive_payload_queue_pop_duplicates(&mut q.0, &mut q.1, &mut q.2, &mut q.3, &q.4, &mut n, &mut out);
         assert_eq!((result, n, out), (0, 0, [0; LOG]));
         assert!(q == before);
@@ -122,6 +123,7 @@ fn reassembly_calls() {
         assert_eq!((found, hand, buffer), (false, Hand::default(), [8; 16]));
         assert_eq!(ffi::reassembly_queue_forward_tsn_for_ordered(&mut q, &mut table, &mut pool, 5), 0);
         assert_eq!(ffi::reassembly_queue_forward_tsn_for_unordered(&mut q, &mut table, &mut pool, 5), 0);
+        assert_eq!(ffi::forward_tsn::apply_to_stream(&mut q, &mut table, &mut pool, (4, 5), &[0, 0, 0, 9]), 0);
         assert_eq!(ffi::reassembly_queue_get_num_bytes(&q, &table, &pool, &mut n), 0);
         assert_eq!(n, 0);
         assert!(q == numbers && table == [3; FRAGMENT_WORDS] && pool == vec![4; room]);

@@ -1,4 +1,4 @@
-//! Random runs of every call, through the archive, held to the plain model of document 01 in `model`. The runs are fixed by their seeds.
+//! Random runs of every call, through the archive, held to the plain model of documents 01 and 02 in `model`. The runs are fixed by their seeds.
 mod model;
 
 use model::{Stream, Tsns};
@@ -48,6 +48,8 @@ struct Seen {
     large: u32,
     short: u32,
     found: u32,
+    applied: u32,
+    unchanged: u32,
 }
 
 impl Seen {
@@ -59,6 +61,11 @@ impl Seen {
             Err(Error::InboundPacketTooLarge) => self.large += 1,
             Err(e) => panic!("{e}"),
         }
+    }
+
+    /// A FORWARD TSN chunk that changed what is held, or did not.
+    fn forward(&mut self, changed: bool) {
+        *if changed { &mut self.applied } else { &mut self.unchanged } += 1;
     }
 }
 
@@ -92,11 +99,18 @@ fn tsn_queue() {
                     m.pop_up_to(tsn);
                 }
                 87..89 => {
+                    let point = cumulative.wrapping_add(r.below(span / 4) as u32).wrapping_sub(8);
+                    let held = m.held.len();
+                    q.apply_forward_tsn(cumulative, point);
+                    m.apply_forward_tsn(cumulative, point);
+                    seen.forward(m.held.len() < held);
+                }
+                89..91 => {
                     let log = q.pop_duplicates();
                     assert_eq!(log.as_slice(), std::mem::take(&mut m.log));
                     assert!(log.tsns[log.count..].iter().all(|t| *t == 0));
                 }
-                89..91 => cumulative = cumulative.wrapping_add(r.below(3) as u32),
+                91..93 => cumulative = cumulative.wrapping_add(r.below(3) as u32),
                 _ => gap_report(&q, &m, cumulative, r.below(300) as usize, &mut seen),
             }
             assert_eq!(q.get(chunk.tsn), m.get(chunk.tsn));
@@ -107,6 +121,7 @@ fn tsn_queue() {
         }
     }
     assert!(seen.yes > 1_000 && seen.no > 1_000 && seen.full > 100 && seen.found > 100 && seen.short > 100, "{seen:?}");
+    assert!(seen.applied > 100 && seen.unchanged > 100, "{seen:?}");
 }
 
 /// The report into lists of so many places, which may be too few; what stands behind the blocks stays.
@@ -150,6 +165,16 @@ fn reassembly() {
                     q.forward_tsn_for_ordered(chunk.stream_sequence_number);
                     m.skip_ordered(chunk.stream_sequence_number);
                 }
+                95..97 => {
+                    let pair = |r: &mut Random| (2 + r.below(3) as u16, chunk.stream_sequence_number.wrapping_add(r.below(3) as u16));
+                    let pairs: Vec<_> = (0..r.below(4)).map(|_| pair(&mut r)).collect();
+                    let bytes: Vec<u8> = pairs.iter().flat_map(|p| [p.0.to_be_bytes(), p.1.to_be_bytes()].concat()).collect();
+                    let cumulative = chunk.tsn.wrapping_add(r.below(8) as u32).wrapping_sub(6);
+                    let held = (m.num_bytes(), m.next_ssn);
+                    q.apply_forward_tsn(cumulative, chunk.tsn, ForwardTsnStreams(&bytes));
+                    m.apply_forward_tsn(cumulative, chunk.tsn, &pairs);
+                    seen.forward((m.num_bytes(), m.next_ssn) != held);
+                }
                 _ => base = base.wrapping_add(r.below(3) as u32),
             }
             assert_eq!((q.get_num_bytes(), q.is_readable()), (m.num_bytes(), m.is_readable()));
@@ -157,6 +182,7 @@ fn reassembly() {
     }
     assert!(seen.yes > 1_000 && seen.no > 1_000 && seen.full > 100 && seen.large > 100, "{seen:?}");
     assert!(seen.found > 1_000 && seen.short > 100, "{seen:?}");
+    assert!(seen.applied > 100 && seen.unchanged > 100, "{seen:?}");
 }
 
 /// A take into a buffer that may be too short; then the message is read whole and in pieces.
@@ -214,22 +240,30 @@ fn chunks_written_and_read() {
         let s = ChunkSelectiveAck::unmarshal(&out).unwrap();
         assert_eq!((s.cumulative_tsn_ack, s.advertised_receiver_window_credit), (base, b));
         assert_eq!((usize::from(s.gap_ack_blocks), usize::from(s.duplicate_tsns)), (a.len(), dups.len()));
-        assert!(ChunkSelectiveAck::gap_ack_blocks(&out).unwrap().iter().map(|b| b.end).eq(a));
+        assert!(ChunkSelectiveAck::gap_ack_blocks(&out).unwrap().iter().map(|b| b.end).eq(a.iter().copied()));
         assert!(ChunkSelectiveAck::duplicate_tsns(&out).unwrap().iter().eq(dups));
+        let mut out = vec![6; 8 + 4 * a.len()];
+        assert_eq!(ChunkForwardTsn::marshal_to(&mut out, base, &a, &a), Ok(out.len()));
+        let f = ChunkForwardTsn::unmarshal(&out).unwrap();
+        assert_eq!((f.new_cumulative_tsn, usize::from(f.streams)), (base, a.len()));
+        assert!(ChunkForwardTsn::streams(&out).unwrap().iter().map(|p| p.sequence).eq(a));
     }
 }
 
-/// Any bytes: a reader answers as document 01 says of their first fields, by hand.
+/// Any bytes: a reader answers as the documents say of their first fields, by hand.
 #[test]
 fn any_bytes() {
     let mut r = Random(0xBADD_CAFE);
-    let mut accepted = [0, 0];
+    let mut accepted = [0, 0, 0];
     for _ in 0..100_000 {
         let mut raw: Vec<u8> = (0..r.below(40)).map(|_| r.next() as u8).collect();
         for (i, small) in [(0, 4), (2, 1), (3, 48), (12, 1), (13, 3), (14, 1), (15, 3)] {
             if let (Some(b), true) = (raw.get_mut(i), r.often(90)) {
                 *b = r.below(small) as u8;
             }
+        }
+        if let (Some(b), true) = (raw.first_mut(), r.often(30)) {
+            *b = 192;
         }
         let at = |i: usize| usize::from(raw[i]) * 256 + usize::from(raw[i + 1]);
         let wanted = |typ: u8| match raw.len() {
@@ -238,13 +272,17 @@ fn any_bytes() {
             _ if raw[0] != typ => Err(Error::ChunkTypeNotAskedFor),
             _ if typ == 0 && at(2) < 16 => Err(Error::ChunkPayloadSmall),
             _ if typ == 3 && (at(2) < 16 || at(2) < 16 + 4 * at(12) + 4 * at(14)) => Err(Error::SackTooSmall),
+            _ if typ == 192 && (at(2) < 8 || at(2) % 4 != 0) => Err(Error::ChunkTooShort),
             _ => Ok(at(2)),
         };
         assert_eq!(ChunkPayloadData::user_data(&raw).map(|d| d.len() + 16), wanted(0));
         assert_eq!(ChunkPayloadData::unmarshal(&raw).map(|_| ()), wanted(0).map(|_| ()));
         assert_eq!(ChunkSelectiveAck::unmarshal(&raw).map(|_| ()), wanted(3).map(|_| ()));
-        accepted[0] += u32::from(wanted(0).is_ok());
-        accepted[1] += u32::from(wanted(3).is_ok());
+        assert_eq!(ChunkForwardTsn::unmarshal(&raw).map(|f| 4 * usize::from(f.streams) + 8), wanted(192));
+        assert_eq!(ChunkForwardTsn::streams(&raw).map(|p| p.0.len() + 8), wanted(192));
+        for (n, typ) in accepted.iter_mut().zip([0, 3, 192]) {
+            *n += u32::from(wanted(typ).is_ok());
+        }
     }
     assert!(accepted.iter().all(|n| *n > 500), "{accepted:?}");
 }

@@ -1,4 +1,4 @@
-//! Document 01's rules in plain Rust, with `Vec`s: what the archive's answers are compared with.
+//! The rules of documents 01 and 02 in plain Rust, with `Vec`s: what the archive's answers are compared with.
 use sctp_receive::{ChunkPayloadData, Error, Queued};
 
 pub fn before32(a: u32, b: u32) -> bool {
@@ -48,6 +48,12 @@ impl Tsns {
 
     pub fn pop_up_to(&mut self, tsn: u32) {
         self.held.retain(|h| !(h.chunk.tsn == tsn || before32(h.chunk.tsn, tsn)));
+    }
+
+    pub fn apply_forward_tsn(&mut self, cumulative: u32, point: u32) {
+        if !(point == cumulative || before32(point, cumulative)) {
+            self.pop_up_to(point);
+        }
     }
 
     pub fn get(&self, tsn: u32) -> Option<Queued> {
@@ -237,5 +243,17 @@ impl Stream {
     pub fn skip_unordered(&mut self, tsn: u32) {
         let n = self.loose.iter().position(|f| before32(tsn, f.chunk.tsn)).unwrap_or(self.loose.len());
         self.loose.drain(..n);
+    }
+
+    pub fn apply_forward_tsn(&mut self, cumulative: u32, point: u32, pairs: &[(u16, u16)]) {
+        if point == cumulative || before32(point, cumulative) {
+            return;
+        }
+        for (stream, ssn) in pairs {
+            if *stream == self.si {
+                self.skip_ordered(*ssn);
+            }
+        }
+        self.skip_unordered(point);
     }
 }
