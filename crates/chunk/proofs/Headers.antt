@@ -9,10 +9,12 @@ use borrow.Author.Tests.{eq-eqb, ne-eqb, lt-ltb, le-ltb, ltb-false, eqb-true, no
 use lib.ListN.{length, take, drop, length-append, length-drop}
 use lib.Seq.{length-take-le, take-add, drop-at}
 use denote.Ref.{RefT}
+use borrow.Rule.Slice.PartMut.{midOf, putMid}
 use Rattle.wire.specs.BigEndian.{bigEndian, over}
 use Rattle.wire.specs.Refusal.{Check, none, refuse, first, says}
 use Rattle.wire.specs.Front.{Front}
 use Rattle.wire.proofs.Reading.{Whole, whole-front, shorter, begins-with, refused, accepted, first-refused, first-passed, none-holds}
+use Rattle.wire.proofs.Writing.{behind}
 use Rattle.chunk.specs.Layout.{Header, header, headerBytes, chunk}
 use Rattle.chunk.specs.Header.{HeaderFront, headerChecks, kindOnly, kindChecks, headerTold, headerRead, Headed, HeadedFits, headedBytes}
 use Rattle.chunk.specs.Part.{Part, partOf}
@@ -23,11 +25,6 @@ use Rattle.chunk.specs.declared.chunk_header.Unmarshalled.the-variants a
 pub header-length : (h : Header) → length (headerBytes h) ≡ 4
 unfolding bigEndian headerBytes
 header-length h = refl
-
--- a header that was put at the front of a buffer is that of its fields
-pub header-put : {out : List ℕ} (was : List ℕ) (kind flags size : ℕ) → out ≡ over was (bigEndian 1 kind ++ (bigEndian 1 flags ++ bigEndian 2 size)) → out ≡ over was (headerBytes (header kind flags size))
-unfolding headerBytes
-header-put was kind flags size e = e
 
 -- the header, and n bytes of fields behind it, that the lent bytes begin with
 abbrev pub FieldsFront : {A : Type 0} → (A → List ℕ) → (A → Type 0) → ℕ → List ℕ → Type 0
@@ -116,6 +113,13 @@ pub chunk-parts : (kind flags n : ℕ) (value more : List ℕ) → length value 
 chunk-parts kind flags n value more sized =
     let size : 4 + length (value ++ more) ≡ 4 + n + length more = rw length-append (omega arith) in
     rw (append-assoc, size)
+
+-- it stands in a buffer once its header and fields are put at the front, and the rest into what is left behind them
+pub chunk-put : (kind flags n : ℕ) (value more out₀ : List ℕ) {out ys : List ℕ} → length value ≡ n → out ≡ over out₀ (headerBytes (header kind flags (4 + n + length more)) ++ value)
+    → ys ≡ over (midOf (4 + n) (length out - (4 + n)) out) more → putMid (4 + n) (length out - (4 + n)) out ys ≡ over out₀ (chunk kind flags (value ++ more))
+chunk-put kind flags n value more out₀ sized e f =
+    behind out₀ (headerBytes (header kind flags (4 + n + length more)) ++ value) more (4 + n) (simp (length-append, header-length, sized)) e f
+    ∙ ap (over out₀) (chunk-parts kind flags n value more sized)
 
 -- what passes is, up to its length, the chunk of the fields in front and of what lies behind them
 pub headed-accepted : {A : Type 0} (value : A → List ℕ) (Fits : A → Type 0) (kind n : ℕ) {raw : List ℕ} (f : FieldsFront value Fits n raw) → length (value (f .fields .fields)) ≡ n

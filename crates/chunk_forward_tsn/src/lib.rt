@@ -1,13 +1,10 @@
 // The FORWARD TSN chunk of RFC 3758 section 3.2.
 ghost use mathlib.Core.Path.{_≡_};
-ghost use Prim.Native.Nat.{_*_, _%_, _≤_};
 ghost use lib.ListN.{length};
 ghost use Rattle.wire.specs.Refusal.{written};
-ghost use Rattle.wire.specs.BigEndian.{over};
 ghost use Rattle.chunk.specs.Header.{HeaderFront, headerTold, headerRead, Room};
 ghost use Rattle.chunk.specs.Marshal.{marshalTold};
 ghost use Rattle.chunk.specs.Part.{part};
-ghost use Rattle.chunk_forward_tsn.specs.Layout.{pair, pairBytes, pairsBytes};
 ghost use Rattle.chunk_forward_tsn.specs.ForwardTsn.{forwardTold, ForwardFront, forwardChecks, forwardRead, pairsPart, PairFront, pairTold, pairRead, forwardWritten};
 use chunk::ACCEPTED;
 use chunk::Marshalled;
@@ -126,31 +123,7 @@ pub fn marshal_to(
     if out.len() < size {
         return Marshalled::Refused(10);
     }
-    wire::put_header(out, 192, 0, size as u16);
-    wire::put_u32(&mut out[4..], new_cumulative_tsn);
-    put_pairs(&mut out[8..], identifiers, sequences);
+    fields::put_front_4(out, 192, 0, size as u16, new_cumulative_tsn);
+    fields::put_pairs(&mut out[8..], identifiers, sequences);
     Marshalled::Bytes(size)
-}
-
-// The pairs, put at the front of what is left behind the point.
-fn put_pairs(out: &mut [u8], identifiers: &[u16], sequences: &[u16])
-    requires { ⌜ length (now identifiers) ≡ length (now sequences) ⌝ }
-    requires { ⌜ 4 * length (now identifiers) ≤ length (now out) ⌝ }
-    ensures { λ _. ⌜ now (out .exit) ≡ over (now (out .entry)) (pairsBytes (now (identifiers .entry)) (now (sequences .entry))) ⌝ }
-{
-    let mut i: usize = 0;
-    while i < identifiers.len() {
-        let at = 4 * i;
-        put_pair(&mut out[at..], identifiers[i], sequences[i]);
-        i += 1;
-    }
-}
-
-// One pair, put at the front of what is lent.
-fn put_pair(out: &mut [u8], identifier: u16, sequence: u16)
-    requires { ⌜ 4 ≤ length (now out) ⌝ }
-    ensures { λ _. ⌜ now (out .exit) ≡ over (now (out .entry)) (pairBytes (pair identifier sequence)) ⌝ }
-{
-    wire::put_u16(out, identifier);
-    wire::put_u16(&mut out[2..], sequence);
 }

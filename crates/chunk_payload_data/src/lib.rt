@@ -3,12 +3,10 @@ ghost use mathlib.Core.Path.{_≡_};
 ghost use Prim.Native.Nat.{_≤_};
 ghost use lib.ListN.{length};
 ghost use Rattle.wire.specs.Refusal.{written};
-ghost use Rattle.wire.specs.BigEndian.{over};
-ghost use Rattle.chunk_payload_data.specs.Layout.{dataValue};
 ghost use Rattle.chunk.specs.Header.{HeaderFront};
 ghost use Rattle.chunk.specs.Marshal.{marshalTold};
 ghost use Rattle.chunk.specs.Part.{part};
-ghost use Rattle.chunk_payload_data.specs.Data.{identifierNumber, identifierName, DataFront, dataTold, dataRead, dataHeld, dataShown, userData, dataFlags, weighed, dataSent, dataWritten};
+ghost use Rattle.chunk_payload_data.specs.Data.{identifierNumber, identifierName, DataFront, dataTold, dataRead, dataHeld, dataShown, userData, dataFlags, weighed, dataWritten};
 use chunk::ACCEPTED;
 use chunk::Marshalled;
 use chunk::chunk_header;
@@ -154,21 +152,18 @@ pub fn marshal_to(out: &mut [u8], fields: ChunkPayloadData, user: &[u8]) -> Mars
         return Marshalled::Refused(10);
     }
     let flags = flags_of(fields);
-    wire::put_header(out, 0, flags, size as u16);
-    put_fields(&mut out[4..], fields);
-    wire::put_bytes(&mut out[16..], user);
-    Marshalled::Bytes(size)
-}
-
-// The fields, put at the front of what is left behind the header.
-fn put_fields(out: &mut [u8], fields: ChunkPayloadData)
-    requires { ⌜ 12 ≤ length (now out) ⌝ }
-    ensures { λ _. ⌜ now (out .exit) ≡ over (now (out .entry)) (dataValue (dataSent fields)) ⌝ }
-{
     let payload_type = fields.payload_type;
     let number = payload_type.to_u32();
-    wire::put_u32(out, fields.tsn);
-    wire::put_u16(&mut out[4..], fields.stream_identifier);
-    wire::put_u16(&mut out[6..], fields.stream_sequence_number);
-    wire::put_u32(&mut out[8..], number);
+    fields::put_front_4224(
+        out,
+        0,
+        flags,
+        size as u16,
+        fields.tsn,
+        fields.stream_identifier,
+        fields.stream_sequence_number,
+        number,
+    );
+    wire::put_bytes(&mut out[16..], user);
+    Marshalled::Bytes(size)
 }

@@ -1,11 +1,12 @@
 -- The bytes of a SACK chunk: their number, and how its lists are put together; and what a reader's answer says of the checks.
 -- Assumes nothing.
 use mathlib.Core.Path.{_≡_, refl}
-use mathlib.Core.List.{List, [], _++_, append-assoc, append-nil}
-use Prim.Native.Nat.{ℕ, _+_, _*_}
+use mathlib.Core.List.{List, [], _++_, append-nil}
+use Prim.Native.Nat.{ℕ, _+_, _-_, _*_}
 use native.Mathlib.Omega.{arith}
 use lib.ListN.{length, length-append}
-use Rattle.wire.specs.BigEndian.{bigEndian}
+use borrow.Rule.Slice.PartMut.{midOf, putMid}
+use Rattle.wire.specs.BigEndian.{bigEndian, over}
 use Rattle.wire.specs.Facts.{big-endian-length}
 use Rattle.wire.specs.Refusal.{none, refuse, first}
 use Rattle.wire.proofs.Reading.{refused, accepted}
@@ -16,8 +17,9 @@ use Rattle.chunk_selective_ack.specs.Sack.{sackHeld, sackTold, sackCheck
 use Rattle.chunk_selective_ack.specs.declared.ChunkSelectiveAck.{ChunkSelectiveAck}
 use Rattle.chunk_selective_ack.specs.declared.Unmarshalled.{Unmarshalled}
 use Rattle.chunk_selective_ack.specs.declared.Unmarshalled.the-variants as answers
-use Rattle.chunk.proofs.Headers.{header-length}
-use Rattle.chunk.proofs.Entries.{Entries, entries-length}
+use Rattle.chunk.proofs.Headers.{header-length, chunk-put}
+use Rattle.fields.specs.Pairs.{pairs, words}
+use Rattle.fields.proofs.Entries.{Entries, pairs-entries, words-entries, entries-length, entries-same}
 
 module _ (lent : ℕ) (h : Headed Sack) (r : Unmarshalled) (t : sackTold r ≡ sackRead lent h) where
   pub sack-refused : {k : ℕ} → r ≡ answers.Refused k → first (sackChecks lent h) ≡ refuse k
@@ -42,6 +44,14 @@ pub tsn-entries : Entries (λ (t u : ℕ). bigEndian 4 t) (λ (ts us : List ℕ)
 unfolding duplicateTsns
 tsn-entries = record { none = λ us. refl; more = λ t u ts us. refl; wide = λ t u. big-endian-length 4 t }
 
+-- as `put_pairs` and `put_words` write them
+pub blocks-pairs : (starts ends : List ℕ) → length starts ≡ length ends → gapBlocks starts ends ≡ pairs starts ends
+unfolding blockBytes
+blocks-pairs = entries-same block-entries pairs-entries
+
+pub tsns-words : (tsns : List ℕ) → duplicateTsns tsns ≡ words tsns
+tsns-words tsns = entries-same tsn-entries words-entries tsns tsns refl
+
 -- ── the chunk ──
 
 pub sack-value-length : (s : Sack) → length (sackValue s) ≡ 12
@@ -56,13 +66,16 @@ module _ (cumulative window : ℕ) (starts ends duplicates : List ℕ) (same : l
   abbrev fields : Sack
   fields = sack cumulative window (length starts) (length duplicates)
 
-  value-size : 4 + length (sackValue fields ++ (gapBlocks starts ends ++ (duplicateTsns duplicates ++ []))) ≡ 16 + 4 * length starts + 4 * length duplicates
-  value-size = rw (length-append (sackValue fields), sack-value-length) (omega (arith, lists-length starts ends duplicates [] same))
+  size : 16 + length (gapBlocks starts ends ++ (duplicateTsns duplicates ++ [])) ≡ 16 + 4 * length starts + 4 * length duplicates
+  size = omega (arith, lists-length starts ends duplicates [] same)
 
   -- a SACK chunk has 16 bytes and 4 for each block and each duplicate
   pub sack-chunk-length : length (sackChunk 0 cumulative window starts ends duplicates []) ≡ 16 + 4 * length starts + 4 * length duplicates
-  sack-chunk-length = simp (length-append, header-length) (omega (arith, simp length-append at value-size))
+  sack-chunk-length = simp (length-append, header-length, sack-value-length) (omega (arith, simp length-append at size))
 
-  -- it is its header, its fields, its blocks and its duplicates
-  pub sack-chunk-parts : ((headerBytes (header 3 0 (16 + 4 * length starts + 4 * length duplicates)) ++ sackValue fields) ++ gapBlocks starts ends) ++ duplicateTsns duplicates ≡ sackChunk 0 cumulative window starts ends duplicates []
-  sack-chunk-parts = rw value-size (simp (append-assoc, append-nil))
+  -- it stands in a buffer once its header and fields are put at the front, and its lists behind them
+  pub sack-put : (out₀ : List ℕ) {out ys : List ℕ} → out ≡ over out₀ (headerBytes (header 3 0 (16 + 4 * length starts + 4 * length duplicates)) ++ sackValue fields)
+      → ys ≡ over (midOf 16 (length out - 16) out) (pairs starts ends ++ words duplicates) → putMid 16 (length out - 16) out ys ≡ over out₀ (sackChunk 0 cumulative window starts ends duplicates [])
+  sack-put out₀ {out} {ys} e f =
+      chunk-put 3 0 12 (sackValue fields) (gapBlocks starts ends ++ (duplicateTsns duplicates ++ [])) out₀ {out = out} {ys = ys} (sack-value-length fields)
+      (rw size e) (rw (blocks-pairs starts ends same, append-nil, tsns-words duplicates) f)

@@ -1,10 +1,8 @@
 // The SACK chunk of RFC 4960 section 3.3.4.
 ghost use mathlib.Core.Path.{_≡_};
-ghost use Prim.Native.Nat.{_+_, _*_, _≤_};
+ghost use Prim.Native.Nat.{_≤_};
 ghost use lib.ListN.{length};
 ghost use Rattle.wire.specs.Refusal.{written};
-ghost use Rattle.wire.specs.BigEndian.{over};
-ghost use Rattle.chunk_selective_ack.specs.Layout.{sack, sackValue, block, blockBytes, gapBlocks, duplicateTsns};
 ghost use Rattle.chunk.specs.Marshal.{marshalTold};
 ghost use Rattle.chunk.specs.Part.{part};
 ghost use Rattle.chunk_selective_ack.specs.Sack.{sackHeld, sackTold, SackFront, sackRead, Lists, blocksPart, duplicatesPart, BlockFront, blockTold, blockRead, TsnFront, tsnTold, tsnRead, sackWritten};
@@ -170,62 +168,16 @@ pub fn marshal_to(
     if out.len() < size {
         return Marshalled::Refused(10);
     }
-    wire::put_header(out, 3, 0, size as u16);
-    put_fields(
-        &mut out[4..],
+    fields::put_front_4422(
+        out,
+        3,
+        0,
+        size as u16,
         cumulative,
         window,
         blocks as u16,
         tsns as u16,
     );
-    put_blocks(&mut out[16..], starts, ends);
-    put_tsns(&mut out[list..], duplicates);
+    fields::put_pairs_and_words(&mut out[16..], starts, ends, duplicates);
     Marshalled::Bytes(size)
-}
-
-// The fields, put at the front of what is left behind the header.
-fn put_fields(out: &mut [u8], cumulative: u32, window: u32, blocks: u16, tsns: u16)
-    requires { ⌜ 12 ≤ length (now out) ⌝ }
-    ensures { λ _. ⌜ now (out .exit) ≡ over (now (out .entry)) (sackValue (sack cumulative window blocks tsns)) ⌝ }
-{
-    wire::put_u32(out, cumulative);
-    wire::put_u32(&mut out[4..], window);
-    wire::put_u16(&mut out[8..], blocks);
-    wire::put_u16(&mut out[10..], tsns);
-}
-
-// The blocks, put at the front of what is left behind the fields.
-fn put_blocks(out: &mut [u8], starts: &[u16], ends: &[u16])
-    requires { ⌜ length (now starts) ≡ length (now ends) ⌝ }
-    requires { ⌜ 4 * length (now starts) ≤ length (now out) ⌝ }
-    ensures { λ _. ⌜ now (out .exit) ≡ over (now (out .entry)) (gapBlocks (now (starts .entry)) (now (ends .entry))) ⌝ }
-{
-    let mut i: usize = 0;
-    while i < starts.len() {
-        let at = 4 * i;
-        put_block(&mut out[at..], starts[i], ends[i]);
-        i += 1;
-    }
-}
-
-// One block, put at the front of what is lent.
-fn put_block(out: &mut [u8], start: u16, end: u16)
-    requires { ⌜ 4 ≤ length (now out) ⌝ }
-    ensures { λ _. ⌜ now (out .exit) ≡ over (now (out .entry)) (blockBytes (block start end)) ⌝ }
-{
-    wire::put_u16(out, start);
-    wire::put_u16(&mut out[2..], end);
-}
-
-// The duplicate TSNs, put at the front of what is left behind the blocks.
-fn put_tsns(out: &mut [u8], tsns: &[u32])
-    requires { ⌜ 4 * length (now tsns) ≤ length (now out) ⌝ }
-    ensures { λ _. ⌜ now (out .exit) ≡ over (now (out .entry)) (duplicateTsns (now (tsns .entry))) ⌝ }
-{
-    let mut i: usize = 0;
-    while i < tsns.len() {
-        let at = 4 * i;
-        wire::put_u32(&mut out[at..], tsns[i]);
-        i += 1;
-    }
 }

@@ -17,14 +17,13 @@ use Rattle.chunk.specs.Layout.{header, headerBytes, chunk}
 use Rattle.chunk.specs.Header.{HeaderFront, kindChecks, Headed, HeadedFits}
 use Rattle.chunk.specs.Part.{Part}
 use Rattle.chunk.proofs.Headers.{header-front, passes, headed-accepted, chunk-front, chunk-behind, chunk-passes, part-back}
-use Rattle.chunk.proofs.Entries.{entries-length, entry-begins, entries-exist, entry-bytes}
-use Rattle.chunk_forward_tsn.specs.Layout.{pair, pairBytes, pairsBytes, forwardTsnChunk}
+use Rattle.fields.proofs.Entries.{entries-length, entry-begins, any-pairs, entry-bytes}
+use Rattle.chunk_forward_tsn.specs.Layout.{pair, pairsBytes, forwardTsnChunk}
 use Rattle.chunk_forward_tsn.specs.ForwardTsn.{forward, forwardTold, Word, ForwardFront, pairsOnly, forwardChecks, forwardRead, pairsPart, PairFront, pairTold, pairRead}
 use Rattle.chunk_forward_tsn.specs.declared.Unmarshalled.{Unmarshalled}
 use Rattle.chunk_forward_tsn.specs.declared.Unmarshalled.the-variants.{Fields}
 use Rattle.chunk_forward_tsn.specs.declared.StreamAt.{StreamAt}
-use Rattle.chunk_forward_tsn.proofs.ForwardBytes.{pair-entries}
-use Rattle.chunk_theorems.proofs.Fronts.{two}
+use Rattle.chunk_forward_tsn.proofs.ForwardBytes.{pair-entries, bytes-pairs}
 use Rattle.chunk_theorems.proofs.OneAnswer.{forward-told-one}
 
 -- how many pairs a length says
@@ -126,11 +125,6 @@ pub record Listed (raw : List ℕ) (h : Headed ℕ) (streams ssns : List ℕ) : 
   pub same : length ssns ≡ pairCount h
   pub is : pairsBytes streams ssns ≡ take (4 * pairCount h) (drop 8 raw)
 
--- any 4 bytes are a pair
-pair-exists : (raw : List ℕ) → Bytes raw → 4 ≤ length raw → (s : ℕ) × (n : ℕ) × (take 4 raw ≡ pairBytes (pair s n))
-unfolding pairBytes
-pair-exists raw by h = let (p, q, is) = two raw by h in (p .value, q .value, is)
-
 module _ (raw : List ℕ) (f : ForwardFront raw) (e : first (forwardChecks (length raw) (f .fields .header)) ≡ none) where
   -- what was read, up to its length, is the chunk of its flags, its point and its pairs
   pub forward-read-whole : (streams ssns : List ℕ) → Listed raw (f .fields) streams ssns → take (f .fields .header .size) raw ≡ forwardTsnChunk (f .fields .header .flags) (f .fields .fields) streams ssns
@@ -144,7 +138,7 @@ module _ (raw : List ℕ) (f : ForwardFront raw) (e : first (forwardChecks (leng
   -- such lists exist
   pub pairs-exist : Bytes raw → (streams : List ℕ) × (ssns : List ℕ) × Listed raw (f .fields) streams ssns
   pairs-exist by =
-      let a = forward-accepted raw f e in
-      let p = entry-bytes raw by 8 (pairCount (f .fields)) (omega (arith, a .pairs, a .within)) in
-      let (streams, ssns, c, m, is) = entries-exist pair-entries pair-exists (pairCount (f .fields)) _ (p .0) (p .1) in
-      (streams, ssns, record { count = c; same = m; is = is })
+      let ok = forward-accepted raw f e in
+      let p = entry-bytes raw by 8 (pairCount (f .fields)) (omega (arith, ok .pairs, ok .within)) in
+      let (streams, ssns, c, m, a, b, is) = any-pairs (pairCount (f .fields)) _ (p .0) (p .1) in
+      (streams, ssns, record { count = c; same = m; is = bytes-pairs streams ssns (omega arith) ∙ is })

@@ -19,6 +19,7 @@ use Rattle.chunk_payload_data.specs.Data.{DataFront}
 use Rattle.chunk_selective_ack.specs.Sack.{SackFront, BlockFits, BlockFront, TsnFront}
 use Rattle.chunk_forward_tsn.specs.ForwardTsn.{Word, ForwardFront, PairFits, PairFront}
 use Rattle.chunk.proofs.Headers.{header-length, FieldsFront}
+use Rattle.fields.proofs.Entries.{two-fit}
 use Rattle.chunk_payload_data.proofs.DataBytes.{data-value-length}
 use Rattle.chunk_selective_ack.proofs.SackBytes.{block-length, sack-value-length}
 use Rattle.chunk_forward_tsn.proofs.ForwardBytes.{pair-length}
@@ -121,16 +122,9 @@ forward-some raw by = headed-some (bigEndian 4) Word 4 (big-endian-length 4) wor
 
 -- ── a block, a TSN and a pair stand at every index of any part ──
 
--- two numbers of 2 bytes stand in 4 bytes
-pub two : (raw : List ℕ) → Bytes raw → 4 ≤ length raw → (p : Piece raw 2) × (q : Piece (drop 2 raw) 2) × (take 4 raw ≡ bigEndian 2 (p .value) ++ bigEndian 2 (q .value))
-two raw by h =
-    let p = piece raw by 2 (omega arith) in
-    let q = piece (drop 2 raw) (bytes-drop raw 2 by) 2 (rw length-drop (omega arith)) in
-    (p, q, cut raw 2 2 p (q .is))
-
 block-laid : (raw : List ℕ) → Bytes raw → 4 ≤ length raw → Laid blockBytes BlockFits 4 raw
 unfolding blockBytes
-block-laid raw by h = let (p, q, is) = two raw by h in record { fields = block (p .value) (q .value); fits = record { start = p .fits; end = q .fits }; is = is }
+block-laid raw by h = let (x, y, a, b, is) = two-fit raw by h in record { fields = block x y; fits = record { start = a; end = b }; is = is }
 
 pub block-some : (part : List ℕ) (i : ℕ) → Bytes part → BlockFront part i
 block-some part i by =
@@ -144,7 +138,7 @@ tsn-some part i by =
 
 pair-laid : (raw : List ℕ) → Bytes raw → 4 ≤ length raw → Laid pairBytes PairFits 4 raw
 unfolding pairBytes
-pair-laid raw by h = let (p, q, is) = two raw by h in record { fields = pair (p .value) (q .value); fits = record { stream = p .fits; ssn = q .fits }; is = is }
+pair-laid raw by h = let (x, y, a, b, is) = two-fit raw by h in record { fields = pair x y; fits = record { stream = a; ssn = b }; is = is }
 
 pub pair-some : (part : List ℕ) (i : ℕ) → Bytes part → PairFront part i
 pair-some part i by =

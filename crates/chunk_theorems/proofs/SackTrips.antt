@@ -8,12 +8,11 @@ use borrow.Author.Tests.{le-ltb, lt-leb, ltb-false}
 use lib.ListN.{length, getD, take, drop}
 use lib.Seq.{take-add, take-all, take-at, drop-at, drop-drop}
 use denote.Ref.{RefT}
-use Rattle.wire.specs.BigEndian.{bigEndian}
 use Rattle.wire.specs.Refusal.{none, says, first}
 use Rattle.wire.proofs.Reading.{first-passed, none-holds, none-both}
-use Rattle.wire.proofs.Exists.{Bytes, piece}
+use Rattle.wire.proofs.Exists.{Bytes}
 use Rattle.chunk.specs.Layout.{header, chunk}
-use Rattle.chunk_selective_ack.specs.Layout.{Sack, sack, SackFits, sackValue, block, blockBytes, gapBlocks, duplicateTsns, sackChunk}
+use Rattle.chunk_selective_ack.specs.Layout.{Sack, sack, SackFits, sackValue, block, gapBlocks, duplicateTsns, sackChunk}
 use Rattle.chunk.specs.Header.{kindChecks, Headed, HeadedFits}
 use Rattle.chunk.specs.Part.{Part}
 use Rattle.chunk_selective_ack.specs.Sack.{sackHeld, sackTold, SackFront, listsOnly, sackChecks, sackRead, blocksPart, duplicatesPart, entryChecks, BlockFront, blockTold, blockRead, TsnFront, tsnTold, tsnRead}
@@ -22,9 +21,8 @@ use Rattle.chunk_selective_ack.specs.declared.Unmarshalled.the-variants.{Fields
 use Rattle.chunk_selective_ack.specs.declared.GapAckBlockAt.{GapAckBlockAt}
 use Rattle.chunk_selective_ack.specs.declared.DuplicateTsnAt.{DuplicateTsnAt}
 use Rattle.chunk.proofs.Headers.{passes, headed-accepted, chunk-front, chunk-behind, chunk-passes, part-back}
-use Rattle.chunk.proofs.Entries.{entries-length, entry-begins, entries-exist, entry-bytes}
-use Rattle.chunk_selective_ack.proofs.SackBytes.{block-entries, tsn-entries, sack-value-length, lists-length}
-use Rattle.chunk_theorems.proofs.Fronts.{two}
+use Rattle.fields.proofs.Entries.{entries-length, entry-begins, any-pairs, any-words, entry-bytes}
+use Rattle.chunk_selective_ack.proofs.SackBytes.{block-entries, tsn-entries, blocks-pairs, tsns-words, sack-value-length, lists-length}
 use Rattle.chunk_theorems.proofs.OneAnswer.{sack-told-one}
 
 -- ── what is accepted is a SACK chunk of the fields in front and of what lies behind them ──
@@ -186,18 +184,15 @@ sack-read-written raw f e plain starts ends duplicates l =
 -- any 4 n bytes are n blocks
 pub blocks-exist : (n : ℕ) (part : List ℕ) → Bytes part → length part ≡ 4 * n
     → (starts : List ℕ) × (ends : List ℕ) × (length starts ≡ n) × (length ends ≡ n) × (gapBlocks starts ends ≡ part)
-unfolding blockBytes
-blocks-exist = entries-exist block-entries some
-  where
-    some : (raw : List ℕ) → Bytes raw → 4 ≤ length raw → (s : ℕ) × (e : ℕ) × (take 4 raw ≡ blockBytes (block s e))
-    some raw by h = let (p, q, is) = two raw by h in (p .value, q .value, is)
+blocks-exist n part by l =
+    let (starts, ends, c, m, a, b, is) = any-pairs n part by l in
+    (starts, ends, c, m, blocks-pairs starts ends (omega arith) ∙ is)
 
 -- any 4 n bytes are n duplicates
 pub tsns-exist : (n : ℕ) (part : List ℕ) → Bytes part → length part ≡ 4 * n → (tsns : List ℕ) × (length tsns ≡ n) × (duplicateTsns tsns ≡ part)
-tsns-exist n part by l = let (tsns, any, t, u, is) = entries-exist tsn-entries some n part by l in (tsns, t, is)
-  where
-    some : (raw : List ℕ) → Bytes raw → 4 ≤ length raw → (t : ℕ) × (u : ℕ) × (take 4 raw ≡ bigEndian 4 t)
-    some raw by h = let p = piece raw by 4 h in (p .value, 0, p .is)
+tsns-exist n part by l =
+    let (tsns, t, a, is) = any-words n part by l in
+    (tsns, t, tsns-words tsns ∙ is)
 
 -- whatever is accepted has such lists behind its fields
 pub lists-exist : (raw : List ℕ) (f : SackFront raw) → Bytes raw → first (sackChecks (length raw) (f .fields)) ≡ none

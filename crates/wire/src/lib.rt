@@ -1,6 +1,5 @@
 // Big-endian fields in lent slices: read at a place, written at the front.
 ghost use mathlib.Core.Path.{_≡_};
-ghost use mathlib.Core.List.{_++_};
 ghost use Prim.Native.Nat.{_+_, _≤_, _<_};
 ghost use lib.ListN.{length, take, drop};
 ghost use Rattle.wire.specs.BigEndian.{bigEndian, over};
@@ -84,14 +83,4 @@ pub fn put_bytes(out: &mut [u8], bytes: &[u8])
         out[i] = bytes[i];
         i += 1;
     }
-}
-
-// A chunk's header, put at the front of what is lent: type, flags and length.
-pub fn put_header(out: &mut [u8], kind: u8, flags: u8, length: u16)
-    requires { ⌜ 4 ≤ lib.ListN.length (now out) ⌝ }
-    ensures { λ _. ⌜ now (out .exit) ≡ over (now (out .entry)) (bigEndian 1 kind ++ (bigEndian 1 flags ++ bigEndian 2 length)) ⌝ }
-{
-    put_u8(out, kind);
-    put_u8(&mut out[1..], flags);
-    put_u16(&mut out[2..], length);
 }

@@ -1,22 +1,17 @@
 -- `chunk_forward_tsn::marshal_to` meets its contract: what does not fit is refused, and else header, point and pairs stand one behind the other.
 -- Assumes nothing.
-use mathlib.Core.Path.{ap, _∙_}
 use mathlib.Core.Bool.{not, _||_, or-true}
-use mathlib.Core.List.{List, [], _∷_, _++_}
-use Prim.Native.Nat.{ℕ, _+_, _*_}
+use mathlib.Core.List.{List, [], _∷_}
+use Prim.Native.Nat.{ℕ}
 use borrow.Author.Needs.{needs}
 use borrow.Author.Tests.{lt-ltb, le-ltb, eq-eqb, ne-eqb}
 use lib.Dec.{ltb, eqb}
-use lib.ListN.{length, length-append}
-use Rattle.wire.specs.BigEndian.{bigEndian, over}
+use lib.ListN.{length}
 use Rattle.wire.specs.Refusal.{Check, when}
-use Rattle.wire.specs.Facts.{big-endian-length}
-use Rattle.wire.proofs.Writing.{behind, write-short, write-done}
-use Rattle.chunk.specs.Layout.{header, headerBytes}
-use Rattle.chunk.proofs.Headers.{header-put, header-length}
-use Rattle.chunk_forward_tsn.specs.Layout.{pairsBytes, forwardTsnChunk}
+use Rattle.wire.proofs.Writing.{write-short, write-done}
+use Rattle.chunk_forward_tsn.specs.Layout.{forwardTsnChunk}
 use Rattle.chunk_forward_tsn.specs.ForwardTsn.{forwardWritten}
-use Rattle.chunk_forward_tsn.proofs.ForwardBytes.{forward-chunk-length, forward-chunk-parts}
+use Rattle.chunk_forward_tsn.proofs.ForwardBytes.{forward-chunk-length, forward-put}
 use Rattle.chunk_forward_tsn.proofs.marshal_to.Statement.{statement}
 use Rattle.chunk_forward_tsn.proofs.marshal_to.Tie as tie
 
@@ -48,9 +43,8 @@ done : tie.Need-returns-4
 unfolding forwardWritten
 done c =
     let p = c .before .before in
-    let v = p .before .before .before .before in
-    let h = v .before .before .before .before in
-    let three = h .before .before in
+    let f = p .before .before .before .before in
+    let three = f .before .before in
     let two = three .before in
     let one = two .before in
     let a = one .before .before .before .before .args in
@@ -59,19 +53,14 @@ done c =
     let streams = a .identifiers .now in
     let ssns = a .sequences .now in
     let same = two .if2 .left in
-    let size = 8 + 4 * length streams in
-    let head = headerBytes (header 192 0 size) in
-    let fields = behind out head (bigEndian 4 point) 4 (header-length _) (header-put out 192 0 size (h .put-header .ensures)) (v .put-u32 .ensures) in
-    let all = behind out (head ++ bigEndian 4 point) (pairsBytes streams ssns) 8 (simp (length-append, header-length, big-endian-length)) fields (p .put-pairs .ensures) in
     write-done (nine streams ssns) (forwardTsnChunk 0 point streams ssns) out
     (rw (le-ltb 16381 _ (one .if1 .left), eq-eqb _ _ same))
     (forward-chunk-length 0 point streams ssns same) (three .if3 .left)
-    (all ∙ ap (over out) (forward-chunk-parts 0 point streams ssns same))
+    (forward-put 0 point streams ssns same out (f .put-front-4 .ensures) (p .put-pairs .ensures))
 
 pub marshal-to-spec : {M : Type 1} → statement M
 marshal-to-spec =
     tie.close
     (tie.spec many unequal (λ c. search needs) (λ c. search needs) short
-    (λ c. search needs) (λ c κs. search needs) (λ c. search needs) (λ c. search needs) (λ c. search needs)
-    (λ c κs. search needs) (λ c. search needs) (λ c. search needs) (λ c. search needs) (λ c κs. search needs)
+    (λ c. search needs) (λ c κs. search needs) (λ c. search needs) (λ c. search needs) (λ c. search needs) (λ c κs. search needs)
     (λ c. search needs) done)

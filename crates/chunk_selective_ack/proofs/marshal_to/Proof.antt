@@ -1,23 +1,17 @@
 -- `chunk_selective_ack::marshal_to` meets its contract: what does not fit is refused, and else header, fields, blocks and duplicates stand one behind the other.
 -- Assumes nothing.
-use mathlib.Core.Path.{_≡_, ap, _∙_}
 use mathlib.Core.Bool.{not, _||_, or-true}
-use mathlib.Core.List.{List, [], _∷_, _++_}
-use Prim.Native.Nat.{ℕ, _+_, _*_}
+use mathlib.Core.List.{List, [], _∷_}
+use Prim.Native.Nat.{ℕ, _+_}
 use borrow.Author.Needs.{needs}
 use borrow.Author.Tests.{lt-ltb, le-ltb, eq-eqb, ne-eqb}
-use native.Mathlib.Omega.{arith}
 use lib.Dec.{ltb, eqb}
-use lib.ListN.{length, length-append}
-use Rattle.wire.specs.BigEndian.{over}
+use lib.ListN.{length}
 use Rattle.wire.specs.Refusal.{Check, when}
-use Rattle.wire.proofs.Writing.{behind, write-short, write-done}
-use Rattle.chunk.specs.Layout.{header, headerBytes}
-use Rattle.chunk_selective_ack.specs.Layout.{sack, sackValue, gapBlocks, duplicateTsns, sackChunk}
+use Rattle.wire.proofs.Writing.{write-short, write-done}
+use Rattle.chunk_selective_ack.specs.Layout.{sackValue, sackChunk}
 use Rattle.chunk_selective_ack.specs.Sack.{sackWritten}
-use Rattle.chunk.proofs.Headers.{header-put, header-length}
-use Rattle.chunk.proofs.Entries.{entries-length}
-use Rattle.chunk_selective_ack.proofs.SackBytes.{block-entries, sack-value-length, sack-chunk-length, sack-chunk-parts}
+use Rattle.chunk_selective_ack.proofs.SackBytes.{sack-chunk-length, sack-put}
 use Rattle.chunk_selective_ack.proofs.marshal_to.Statement.{statement}
 use Rattle.chunk_selective_ack.proofs.marshal_to.Tie as tie
 
@@ -46,13 +40,11 @@ short c =
     (sack-chunk-length (a .cumulative) (a .window) starts ends duplicates (two .if2 .left)) (c .if3 .taken)
 
 done : tie.Need-returns-4
-unfolding sackWritten
+unfolding sackWritten sackValue
 done c =
-    let t = c .before .before in
-    let b = t .before .before .before .before in
-    let v = b .before .before .before .before in
-    let h = v .before .before .before .before in
-    let three = h .before .before in
+    let l = c .before .before in
+    let f = l .before .before .before .before in
+    let three = f .before .before in
     let two = three .before in
     let one = two .before in
     let a = one .before .before .before .before .before .args in
@@ -61,22 +53,14 @@ done c =
     let ends = a .ends .now in
     let duplicates = a .duplicates .now in
     let same = two .if2 .left in
-    let head = headerBytes (header 3 0 (16 + 4 * length starts + 4 * length duplicates)) in
-    let value = sackValue (sack (a .cumulative) (a .window) (length starts) (length duplicates)) in
-    let fields = behind out head value 4 (header-length _) (header-put out 3 0 (16 + 4 * length starts + 4 * length duplicates) (h .put-header .ensures)) (v .put-fields .ensures) in
-    let blocks = behind out (head ++ value) (gapBlocks starts ends) 16 (simp (length-append, header-length, sack-value-length)) fields (b .put-blocks .ensures) in
-    let long : length ((head ++ value) ++ gapBlocks starts ends) ≡ 16 + 4 * length starts = simp (length-append, header-length, sack-value-length) (omega (arith, entries-length block-entries starts ends same)) in
-    let all = behind out ((head ++ value) ++ gapBlocks starts ends) (duplicateTsns duplicates) (16 + 4 * length starts) long blocks (t .put-tsns .ensures) in
     write-done (nine starts ends duplicates) (sackChunk 0 (a .cumulative) (a .window) starts ends duplicates []) out
     (rw (le-ltb 16379 _ (one .if1 .left), eq-eqb _ _ same))
     (sack-chunk-length (a .cumulative) (a .window) starts ends duplicates same) (three .if3 .left)
-    (all ∙ ap (over out) (sack-chunk-parts (a .cumulative) (a .window) starts ends duplicates same))
+    (sack-put (a .cumulative) (a .window) starts ends duplicates same out (f .put-front-4422 .ensures) (l .put-pairs-and-words .ensures))
 
 pub marshal-to-spec : {M : Type 1} → statement M
 marshal-to-spec =
     tie.close
     (tie.spec (λ c. search needs) many unequal (λ c. search needs) (λ c. search needs) (λ c. search needs) (λ c. search needs) short
-    (λ c. search needs) (λ c κs. search needs) (λ c. search needs) (λ c. search needs) (λ c. search needs)
-    (λ c. search needs) (λ c. search needs) (λ c κs. search needs) (λ c. search needs) (λ c. search needs) (λ c. search needs)
-    (λ c κs. search needs) (λ c. search needs) (λ c. search needs) (λ c. search needs) (λ c κs. search needs)
-    (λ c. search needs) done)
+    (λ c. search needs) (λ c. search needs) (λ c. search needs) (λ c κs. search needs) (λ c. search needs) (λ c. search needs) (λ c. search needs)
+    (λ c κs. search needs) (λ c. search needs) done)

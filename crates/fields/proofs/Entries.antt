@@ -1,14 +1,17 @@
--- A list in a chunk: entries of 4 bytes, one behind the other. An entry has two numbers, each of a list of its own; a list of single numbers stands beside any other.
+-- Lists of entries of 4 bytes, one behind the other. An entry has two numbers, each of a list of its own; a list of single numbers stands beside any other.
 -- Assumes nothing.
 use mathlib.Core.Path.{_≡_, refl, ap, _∙_}
 use mathlib.Core.List.{List, [], _∷_, _++_, append-assoc, append-nil}
-use Prim.Native.Nat.{ℕ, zero, suc, _+_, _*_, _<_, _≤_}
+use Prim.Native.Nat.{ℕ, zero, suc, _+_, _*_, _^_, _<_, _≤_}
 use native.Mathlib.Numerals.{add-one}
 use native.Mathlib.Omega.{arith}
 use lib.ListN.{length, getD, take, drop, length-append, length-drop, take-append-drop}
 use lib.Seq.{length-take-le, take-all, drop-nil, drop-cons, drop-append-add}
+use Rattle.wire.specs.BigEndian.{bigEndian}
+use Rattle.wire.specs.Facts.{big-endian-length}
 use Rattle.wire.proofs.Reading.{begins-with}
-use Rattle.wire.proofs.Exists.{Bytes, bytes-drop}
+use Rattle.wire.proofs.Exists.{Bytes, piece, cut, bytes-drop}
+use Rattle.fields.specs.Pairs.{pairs, words}
 
 -- all is the bytes of the entries of two lists
 pub record Entries (entry : ℕ → ℕ → List ℕ) (all : List ℕ → List ℕ → List ℕ) : Type 0 where
@@ -16,7 +19,29 @@ pub record Entries (entry : ℕ → ℕ → List ℕ) (all : List ℕ → List �
   pub more : (x y : ℕ) (xs ys : List ℕ) → all (x ∷ xs) (y ∷ ys) ≡ entry x y ++ all xs ys
   pub wide : (x y : ℕ) → length (entry x y) ≡ 4
 
+pub pairs-entries : Entries (λ (x y : ℕ). bigEndian 2 x ++ bigEndian 2 y) pairs
+unfolding pairs bigEndian
+pairs-entries = record { none = λ ys. refl; more = λ x y xs ys. refl; wide = λ x y. refl }
+
+pub words-entries : Entries (λ (x y : ℕ). bigEndian 4 x) (λ (xs ys : List ℕ). words xs)
+unfolding words
+words-entries = record { none = λ ys. refl; more = λ x y xs ys. refl; wide = λ x y. big-endian-length 4 x }
+
+-- every element is so
+abbrev pub Each : (ℕ → Type 0) → List ℕ → Type 0
+Each P xs = (i : ℕ) → P (getD xs i 0)
+
+each-cons : (P : ℕ → Type 0) (x : ℕ) (xs : List ℕ) → P x → Each P xs → Each P (x ∷ xs)
+each-cons P x xs h s zero = h
+each-cons P x xs h s (suc i) = s i
+
 module _ {entry : ℕ → ℕ → List ℕ} {all : List ℕ → List ℕ → List ℕ} (e : Entries entry all) where
+  -- two lists of the same entries are one
+  pub entries-same : {other : List ℕ → List ℕ → List ℕ} → Entries entry other → (xs ys : List ℕ) → length xs ≡ length ys → all xs ys ≡ other xs ys
+  entries-same f [] ys s = rw (e .none ys, f .none ys)
+  entries-same f (x ∷ xs) [] s = absurd (omega arith)
+  entries-same f (x ∷ xs) (y ∷ ys) s = rw (e .more x y xs ys, f .more x y xs ys, entries-same f xs ys (omega arith))
+
   one-more : (xs ys : List ℕ) (i : ℕ) → i < length xs → i < length ys → all (take (suc i) xs) (take (suc i) ys) ≡ all (take i xs) (take i ys) ++ entry (getD xs i 0) (getD ys i 0)
   one-more [] ys i h k = absurd (omega arith)
   one-more (x ∷ xs) [] i h k = absurd (omega arith)
@@ -60,14 +85,37 @@ module _ {entry : ℕ → ℕ → List ℕ} {all : List ℕ → List ℕ → Lis
       rw is (begins-with b more 4 (e .wide (getD xs i 0) (getD ys i 0)))
 
   -- any 4 n bytes are n entries, if any 4 are one
-  pub entries-exist : ((raw : List ℕ) → Bytes raw → 4 ≤ length raw → (x : ℕ) × (y : ℕ) × (take 4 raw ≡ entry x y)) → (n : ℕ) (part : List ℕ) → Bytes part → length part ≡ 4 * n
-      → (xs : List ℕ) × (ys : List ℕ) × (length xs ≡ n) × (length ys ≡ n) × (all xs ys ≡ part)
-  entries-exist some zero part by l = ([], [], refl, refl, e .none [] ∙ take-all 0 part (omega arith))
-  entries-exist some (suc n) part by l =
+  pub entries-exist : (P Q : ℕ → Type 0) → P 0 → Q 0 → ((raw : List ℕ) → Bytes raw → 4 ≤ length raw → (x : ℕ) × (y : ℕ) × P x × Q y × (take 4 raw ≡ entry x y))
+      → (n : ℕ) (part : List ℕ) → Bytes part → length part ≡ 4 * n → (xs : List ℕ) × (ys : List ℕ) × (length xs ≡ n) × (length ys ≡ n) × Each P xs × Each Q ys × (all xs ys ≡ part)
+  entries-exist P Q p q some zero part by l = ([], [], refl, refl, λ i. p, λ i. q, e .none [] ∙ take-all 0 part (omega arith))
+  entries-exist P Q p q some (suc n) part by l =
       let k : length (drop 4 part) ≡ 4 * n = rw length-drop (omega arith) in
-      let (x, y, one) = some part by (omega arith) in
-      let (xs, ys, s, t, is) = entries-exist some n (drop 4 part) (bytes-drop part 4 by) k in
-      (x ∷ xs, y ∷ ys, ap suc s, ap suc t, rw (e .more x y xs ys, ← one, is) (take-append-drop 4 part))
+      let (x, y, a, b, one) = some part by (omega arith) in
+      let (xs, ys, s, t, all-a, all-b, is) = entries-exist P Q p q some n (drop 4 part) (bytes-drop part 4 by) k in
+      (x ∷ xs, y ∷ ys, ap suc s, ap suc t, each-cons P x xs a all-a, each-cons Q y ys b all-b, rw (e .more x y xs ys, ← one, is) (take-append-drop 4 part))
+
+-- a number of k bits
+abbrev pub Bits : ℕ → ℕ → Type 0
+Bits k x = x < 2 ^ k
+
+-- any 4 bytes are two numbers of 16 bits
+pub two-fit : (raw : List ℕ) → Bytes raw → 4 ≤ length raw → (x : ℕ) × (y : ℕ) × Bits 16 x × Bits 16 y × (take 4 raw ≡ bigEndian 2 x ++ bigEndian 2 y)
+two-fit raw by h =
+    let p = piece raw by 2 (omega arith) in
+    let q = piece (drop 2 raw) (bytes-drop raw 2 by) 2 (rw length-drop (omega arith)) in
+    (p .value, q .value, p .fits, q .fits, cut raw 2 2 p (q .is))
+
+-- any 4 n bytes are n pairs of them
+pub any-pairs : (n : ℕ) (part : List ℕ) → Bytes part → length part ≡ 4 * n
+    → (xs : List ℕ) × (ys : List ℕ) × (length xs ≡ n) × (length ys ≡ n) × Each (Bits 16) xs × Each (Bits 16) ys × (pairs xs ys ≡ part)
+any-pairs = entries-exist pairs-entries (Bits 16) (Bits 16) (omega arith) (omega arith) two-fit
+
+-- and n numbers of 32 bits
+pub any-words : (n : ℕ) (part : List ℕ) → Bytes part → length part ≡ 4 * n → (xs : List ℕ) × (length xs ≡ n) × Each (Bits 32) xs × (words xs ≡ part)
+any-words n part by l = let (xs, ys, s, t, a, b, is) = entries-exist words-entries (Bits 32) (Bits 32) (omega arith) (omega arith) some n part by l in (xs, s, a, is)
+  where
+    some : (raw : List ℕ) → Bytes raw → 4 ≤ length raw → (x : ℕ) × (y : ℕ) × Bits 32 x × Bits 32 y × (take 4 raw ≡ bigEndian 4 x)
+    some raw by h = let p = piece raw by 4 h in (p .value, 0, p .fits, omega arith, p .is)
 
 bytes-take : (n : ℕ) (raw : List ℕ) → Bytes raw → Bytes (take n raw)
 bytes-take zero raw by i = omega arith

@@ -1,15 +1,16 @@
--- `wire::put_header` meets its contract: each field goes into what is left behind those before it.
+-- `fields::put_header` meets its contract: each field goes into what is left behind those before it.
 -- Assumes nothing.
 use mathlib.Core.Path.{refl}
 use mathlib.Core.List.{_++_}
 use borrow.Author.Needs.{needs}
 use Rattle.wire.specs.BigEndian.{bigEndian}
 use Rattle.wire.proofs.Writing.{behind}
-use Rattle.wire.proofs.put_header.Statement.{statement}
-use Rattle.wire.proofs.put_header.Tie as tie
+use Rattle.chunk.specs.Layout.{headerBytes}
+use Rattle.fields.proofs.put_header.Statement.{statement}
+use Rattle.fields.proofs.put_header.Tie as tie
 
 returns : tie.Need-returns
-unfolding bigEndian
+unfolding bigEndian headerBytes
 returns c =
     let l = c .before .before in
     let f = l .before .before .before .before in
@@ -17,7 +18,7 @@ returns c =
     let a = k .before .before .before .args in
     let kind = bigEndian 1 (a .kind) in
     let flags = bigEndian 1 (a .flags) in
-    behind (a .out .now) (kind ++ flags) (bigEndian 2 (a .length)) 2 refl
+    behind (a .out .now) (kind ++ flags) (bigEndian 2 (a .size)) 2 refl
     (behind (a .out .now) kind flags 1 refl (k .put-u8 .ensures) (f .put-u82 .ensures)) (l .put-u16 .ensures)
 
 pub put-header-spec : {M : Type 1} → statement M
