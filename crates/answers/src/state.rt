@@ -1,59 +1,53 @@
-// What goes on from call to call beside the tables: both queues, how much is lent of the pool, the message in hand, and the place of the next byte to write.
-use chunk_payload_data::PayloadProtocolIdentifier;
-use chunks::Chunks;
+// What goes on from call to call beside the tables: both queues, what was answered last, and the place of the next byte to write.
+use answer_fragments::state;
+use answer_fragments::state::Fragments;
+use answer_text::answer;
+use answer_text::answer::Answer;
+use answer_tsns::Told;
 use payload_queue::PayloadQueue;
-use reassembly_queue::ReassemblyQueue;
-
-// The bytes of the pool, of which a part is lent.
-pub const POOL: usize = 40000;
-
-// The message in hand, if there is one, and how many bytes of its buffer are lent; all bytes from `reach` on are 0.
-pub struct Hand {
-    pub message: Chunks,
-    pub held: bool,
-    pub lent: usize,
-    pub reach: usize,
-}
 
 pub struct State {
     pub tsns: PayloadQueue,
-    pub fragments: ReassemblyQueue,
-    pub pool: usize,
-    pub hand: Hand,
+    pub fragments: Fragments,
+    pub answer: Answer,
     pub at: usize,
 }
 
 pub fn fresh() -> State {
     State {
         tsns: PayloadQueue::new(),
-        fragments: ReassemblyQueue::new(0, 65536),
-        pool: reassembly_queue::BYTES,
-        hand: empty_handed(0),
+        fragments: state::fresh(),
+        answer: answer::plain(answer::DONE),
         at: 0,
     }
 }
 
-pub fn empty_handed(reach: usize) -> Hand {
-    Hand {
-        message: Chunks {
-            ssn: 0,
-            ppi: PayloadProtocolIdentifier::Unknown,
-            size: 0,
-            position: 0,
-            given: false,
-        },
-        held: false,
-        lent: 0,
-        reach,
-    }
+// Behind what was written.
+pub fn written(state: State, at: usize) -> State {
+    let mut state = state;
+    state.at = at;
+    state
 }
 
-// The hand with another message.
-pub fn holding(message: Chunks, lent: usize, reach: usize) -> Hand {
-    Hand {
-        message,
-        held: true,
-        lent,
-        reach,
-    }
+pub fn with_answer(state: State, answer: Answer) -> State {
+    let mut state = state;
+    state.answer = answer;
+    state
+}
+
+pub fn with_tsns(state: State, told: Told) -> State {
+    let queue = told.queue;
+    let answer = told.answer;
+    let mut state = state;
+    state.tsns = queue;
+    state.answer = answer;
+    state
+}
+
+pub fn with_fragments(state: State, fragments: Fragments) -> State {
+    let answer = fragments.answer;
+    let mut state = state;
+    state.fragments = fragments;
+    state.answer = answer;
+    state
 }

@@ -2,8 +2,9 @@
 use crate::forms;
 use crate::text;
 use crate::text::FAILED;
-use answers::form;
-use answers::operands;
+use answer_text::form;
+use answer_text::form::PLACES;
+use answer_text::operands;
 
 // No call is longer.
 pub const CALL: usize = 135000;
@@ -16,13 +17,12 @@ const TOP16: u64 = 256;
 // How many bytes the call has when it is done for the time `step`, from 0 on; 0 where it is malformed.
 pub fn encoded(call: &mut [u8], said: &[u8], step: u64) -> usize {
     let mut to = text::find(said, 0, b' ');
-    let form = forms::named(operands::part(said, 0, to));
-    let letters = form.letters;
-    let mut at = text::put(call, 0, form.number);
+    let number = forms::named(operands::part(said, 0, to));
+    let mut at = text::put(call, 0, number);
     let mut i: usize = 0;
-    while i < 9 {
-        let letter = letters[i];
-        if letter == 0 {
+    while i < PLACES {
+        let letter = form::letter(number, i);
+        if letter == b' ' {
             return whole(call, at, to == said.len());
         }
         let from = std::num::wrapping_add_usize(to, 1);
@@ -64,11 +64,12 @@ fn undashed(word: &[u8]) -> &[u8] {
     }
 }
 
+// What the first byte of the number of a letter counts.
 fn top(letter: u8) -> u64 {
     match letter {
-        b'1' => 1,
-        b'2' => TOP16,
-        b'4' => TOP32,
+        b'1' | b'q' | b't' | b'm' => 1,
+        b'2' | b'n' => TOP16,
+        b'4' | b'b' => TOP32,
         b'8' => 72057594037927936,
         _ => 0,
     }

@@ -1,7 +1,7 @@
 // A line as it is to be read: `{N TEXT}` stands for N times TEXT, and dots are dropped.
 use crate::text;
 use crate::text::FAILED;
-use answers::operands;
+use answer_text::operands;
 
 // A line is, then, not longer; so no text is repeated more often.
 pub const LINE: usize = 300000;

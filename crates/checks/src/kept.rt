@@ -1,5 +1,5 @@
 // Are the queues, their tables and the pool as they were?
-use answers::state::POOL;
+use answer_fragments::state::POOL;
 use answers::state::State;
 use payload_queue::PayloadQueue;
 use reassembly_queue::ReassemblyQueue;
@@ -33,7 +33,9 @@ fn words(a: &[u32], b: &[u32]) -> bool {
 }
 
 pub fn queues(a: State, b: State) -> bool {
-    tsns(a.tsns, b.tsns) & fragments(a.fragments, b.fragments) & (a.pool == b.pool)
+    let x = a.fragments;
+    let y = b.fragments;
+    tsns(a.tsns, b.tsns) & fragments(x.queue, y.queue) & (x.pool == y.pool)
 }
 
 fn tsns(a: PayloadQueue, b: PayloadQueue) -> bool {

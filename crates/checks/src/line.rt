@@ -9,10 +9,11 @@ use crate::kept;
 use crate::tally;
 use crate::tally::Tally;
 use crate::text;
-use answers::operands;
-use answers::operands::BYTES;
-use answers::out::SPACE;
-use answers::state::POOL;
+use answer_fragments::state::POOL;
+use answer_text::operands;
+use answer_text::operands::BYTES;
+use answer_text::out::SPACE;
+use answers::state;
 use answers::state::State;
 
 // Whether the answer must be another one, how often the call is done, and from where to where it is said; the answer stands behind that and ` = `.
@@ -23,13 +24,7 @@ struct Said {
     to: usize,
 }
 
-// The state behind a call, and whether the lists are as before.
-struct Found {
-    state: State,
-    kept: bool,
-}
-
-// A line that is a comment, or a section's name, or empty, is done no time.
+// A line that is a comment, or a section's name, or empty, is done no time. A malformed line is done with an empty call, which no queue is lent to.
 pub fn done(
     run: Run,
     script: &[u8],
@@ -42,13 +37,18 @@ pub fn done(
     buffer: &mut [u8; BYTES],
     spare: &mut [u8; BYTES],
 ) -> Run {
-    let run = begun(run, script, from, to);
+    let mut run = begun(run, script, from, to);
     let said = operands::part(script, from, to);
     let mut list = [0u8; LINE];
     let n = expand::expanded(&mut list, said);
     let line = operands::part(&list, 0, n);
     let parts = parts(line, operands::u8_at(said, 0));
-    times(run, line, parts, out, tsns, table, pool, buffer, spare)
+    let mut i: u64 = 0;
+    while i < parts.times {
+        run = once(run, line, parts, i, out, tsns, table, pool, buffer, spare);
+        i += 1;
+    }
+    run
 }
 
 fn begun(run: Run, script: &[u8], from: usize, to: usize) -> Run {
@@ -102,27 +102,7 @@ fn equals(line: &[u8], from: usize) -> usize {
     }
 }
 
-// A malformed line is done with an empty call, which no queue is lent to.
-fn times(
-    run: Run,
-    line: &[u8],
-    parts: Said,
-    out: &mut [u8; SPACE],
-    tsns: &mut [u32; payload_queue::WORDS],
-    table: &mut [u32; reassembly_queue::WORDS],
-    pool: &mut [u8; POOL],
-    buffer: &mut [u8; BYTES],
-    spare: &mut [u8; BYTES],
-) -> Run {
-    let mut run = run;
-    let mut i: u64 = 0;
-    while i < parts.times {
-        run = once(run, line, parts, i, out, tsns, table, pool, buffer, spare);
-        i += 1;
-    }
-    run
-}
-
+// The call, and whether the lists that it was lent are as before; its line stands in front of the buffer.
 fn once(
     run: Run,
     line: &[u8],
@@ -138,27 +118,12 @@ fn once(
     let mut bytes = [0u8; CALL];
     let n = encode::encoded(&mut bytes, operands::part(line, parts.from, parts.to), step);
     let call = operands::part(&bytes, 0, n);
-    let found = answered(run.state, call, out, tsns, table, pool, buffer, spare);
-    judged(run, found, call, line, parts, out)
-}
-
-// The call, and whether the lists that it was lent are as before; its line stands in front of the buffer.
-fn answered(
-    state: State,
-    call: &[u8],
-    out: &mut [u8; SPACE],
-    tsns: &mut [u32; payload_queue::WORDS],
-    table: &mut [u32; reassembly_queue::WORDS],
-    pool: &mut [u8; POOL],
-    buffer: &mut [u8; BYTES],
-    spare: &mut [u8; BYTES],
-) -> Found {
     let words = *tsns;
     let rows = *table;
-    let bytes = *pool;
-    let state = answers::answered(state, call, out, tsns, table, pool, buffer, spare);
-    let kept = kept::lists(tsns, &words, table, &rows, pool, &bytes);
-    Found { state, kept }
+    let held = *pool;
+    let state = answers::answered(run.state, call, out, tsns, table, pool, buffer, spare);
+    let kept = kept::lists(tsns, &words, table, &rows, pool, &held);
+    judged(run, state, kept, call, line, parts, out)
 }
 
 // Must the queues be as before?
@@ -166,14 +131,21 @@ fn is_still(call: &[u8], given: &[u8]) -> bool {
     forms::looks(operands::u8_at(call, 0)) | check::same(operands::first(given, 7), b"refused")
 }
 
-fn judged(run: Run, found: Found, call: &[u8], line: &[u8], parts: Said, out: &[u8; SPACE]) -> Run {
-    let mut state = found.state;
+fn judged(
+    run: Run,
+    state: State,
+    kept: bool,
+    call: &[u8],
+    line: &[u8],
+    parts: Said,
+    out: &[u8; SPACE],
+) -> Run {
     let given = operands::first(out, std::num::wrapping_sub_usize(state.at, 1));
-    state.at = 0;
     let want = operands::part(line, std::num::wrapping_add_usize(parts.to, 3), line.len());
-    let kept = found.kept & kept::queues(run.state, state);
+    let kept = kept & kept::queues(run.state, state);
     let right = fits(given, want) != parts.other;
     let tally = verdict(run.tally, call, given, kept, right);
+    let state = state::written(state, 0);
     Run { state, tally }
 }
 

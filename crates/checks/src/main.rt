@@ -7,11 +7,11 @@ mod line;
 mod tally;
 mod text;
 
-use answers::operands;
-use answers::operands::BYTES;
-use answers::out::SPACE;
+use answer_fragments::state::POOL;
+use answer_text::operands;
+use answer_text::operands::BYTES;
+use answer_text::out::SPACE;
 use answers::state;
-use answers::state::POOL;
 use answers::state::State;
 use libc::STDIN_FILENO;
 use tally::Tally;

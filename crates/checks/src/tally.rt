@@ -1,5 +1,5 @@
 // Checks, counted by section and in all.
-use answers::operands;
+use answer_text::operands;
 
 // The line that is read, the checks so far and those that failed, both ahead of the section too, and where the section's name stands in the script.
 pub struct Tally {

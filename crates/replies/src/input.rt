@@ -1,6 +1,6 @@
 // A window over standard input, in which the next call stands whole: where less than the longest call is left, what is left goes to the front and
 // more is read behind it.
-use answers::operands;
+use answer_text::operands;
 use libc::STDIN_FILENO;
 
 pub const WINDOW: usize = 262144;

@@ -1,14 +1,14 @@
 // Reads calls from standard input, does each on the proved libraries, and writes one line for it: docs/CALLS.md.
 mod input;
 
-use answers::form;
-use answers::operands;
-use answers::operands::BYTES;
-use answers::out;
-use answers::out::LINE;
-use answers::out::SPACE;
+use answer_fragments::state::POOL;
+use answer_text::form;
+use answer_text::operands;
+use answer_text::operands::BYTES;
+use answer_text::out;
+use answer_text::out::LINE;
+use answer_text::out::SPACE;
 use answers::state;
-use answers::state::POOL;
 use answers::state::State;
 use input::View;
 use input::WINDOW;
@@ -54,7 +54,8 @@ fn calls(
             return;
         }
         let call = input::call(window, view);
-        state = answered(state, call, out, tsns, table, pool, buffer, spare);
+        state = answers::answered(state, call, out, tsns, table, pool, buffer, spare);
+        state = roomy(state, out);
     }
 }
 
@@ -83,30 +84,13 @@ fn end(window: &[u8; WINDOW], view: View, number: u64, out: &mut [u8; SPACE], at
     flush(out, at);
 }
 
-// A call, and room for the next one's line.
-fn answered(
-    state: State,
-    call: &[u8],
-    out: &mut [u8; SPACE],
-    tsns: &mut [u32; payload_queue::WORDS],
-    table: &mut [u32; reassembly_queue::WORDS],
-    pool: &mut [u8; POOL],
-    buffer: &mut [u8; BYTES],
-    spare: &mut [u8; BYTES],
-) -> State {
-    let state = answers::answered(state, call, out, tsns, table, pool, buffer, spare);
-    roomy(state, out)
-}
-
 // Where little room is left, what was answered is written out.
 fn roomy(state: State, out: &[u8; SPACE]) -> State {
     if state.at <= SPACE - LINE {
         return state;
     }
     flush(out, state.at);
-    let mut state = state;
-    state.at = 0;
-    state
+    state::written(state, 0)
 }
 
 fn flush(out: &[u8; SPACE], at: usize) {

@@ -13,9 +13,9 @@ abbrev μ : tie.MeasureT-loop
 
 -- The loop's test, from behind the calls of the turn.
 less : tie.Need-loop-less Inv μ
-less c = omega (arith, c .before .before .before .before .before .before .before .before .before .before .before .before .before .loop-test .taken)
+less c = omega (arith, c .before .before .before .before .before .before .before .before .before .before .before .before .before .before .before .loop-test .taken)
 
 pub calls-spec : {M : Type 1} → statement M
 calls-spec =
     tie.close
-    (tie.spec Inv μ (λ c κs. search needs) (λ c κs. search needs) (λ c. search needs) (λ c. search needs) (λ c κs. search needs) (λ c κs. search needs) (λ c. search needs) (λ c κs. search needs) (λ c κs. search needs) less (λ c. search needs) (λ c. search needs))
+    (tie.spec Inv μ (λ c κs. search needs) (λ c κs. search needs) (λ c. search needs) (λ c. search needs) (λ c κs. search needs) (λ c κs. search needs) (λ c. search needs) (λ c κs. search needs) (λ c κs. search needs) (λ c κs. search needs) less (λ c. search needs) (λ c. search needs))

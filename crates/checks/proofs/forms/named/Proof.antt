@@ -5,12 +5,12 @@ use Rattle.checks.proofs.forms.named.Statement.{statement}
 use Rattle.checks.proofs.forms.named.Tie as tie
 
 abbrev Inv : tie.InvT-loop
-Inv name forms number₀ from₀ number from = Unit {0}
+Inv name names number₀ from₀ number from = Unit {0}
 
 abbrev μ : tie.MeasureT-loop
-μ name forms number₀ from₀ number from = 59 - number
+μ name names number₀ from₀ number from = 59 - number
 
 pub named-spec : {M : Type 1} → statement M
 named-spec =
     tie.close
-    (tie.spec Inv μ (λ c. search needs) (λ c. search needs) (λ c κs. search needs) (λ c. search needs) (λ c κs. search needs) (λ c. search needs) (λ c κs. search needs) (λ c κs. search needs) (λ c. search needs) (λ c κs. search needs) (λ c κs. search needs) (λ c. search needs) (λ c κs. search needs) (λ c. search needs) (λ c. search needs) (λ c. search needs) (λ c κs. search needs) (λ c. search needs))
+    (tie.spec Inv μ (λ c. search needs) (λ c. search needs) (λ c κs. search needs) (λ c. search needs) (λ c κs. search needs) (λ c κs. search needs) (λ c. search needs) (λ c κs. search needs) (λ c. search needs) (λ c. search needs) (λ c. search needs) (λ c. search needs))

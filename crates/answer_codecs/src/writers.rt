@@ -1,0 +1,68 @@
+// The calls that write DATA, SACK and FORWARD TSN into a lent buffer.
+use crate::forward;
+use answer_text::answer;
+use answer_text::answer::Answer;
+use answer_text::form;
+use answer_text::lists;
+use answer_text::operands;
+use answer_text::operands::BYTES;
+use answer_text::operands::NUMBERS;
+use chunk::Marshalled;
+
+// All bytes of the room that the call says are shown behind the answer.
+pub fn call(call: &[u8], lent: &mut [u8; BYTES]) -> Answer {
+    let room = operands::most(operands::size_at(call, 1), BYTES);
+    lists::fill(lent, room, operands::u8_at(call, 5));
+    answer::showing(marshal(call, lent, room), answer::SPARE, 0, room)
+}
+
+fn marshal(call: &[u8], lent: &mut [u8], room: usize) -> Answer {
+    let room = operands::most(room, lent.len());
+    let lent = &mut lent[0..room];
+    match operands::u8_at(call, 0) {
+        8 => data_marshal(call, lent),
+        56 => forward::marshal(call, lent),
+        _ => sack_marshal(call, lent),
+    }
+}
+
+pub fn told(written: Marshalled) -> Answer {
+    match written {
+        Marshalled::Bytes(n) => answer::one(answer::WROTE, n as u64),
+        Marshalled::Refused(k) => answer::refused(k),
+    }
+}
+
+fn data_marshal(call: &[u8], lent: &mut [u8]) -> Answer {
+    let mut user = [0u8; BYTES];
+    let n = operands::size_at(call, 19);
+    lists::pattern(&mut user, n, operands::u8_at(call, 23));
+    let chunk = operands::fields(operands::part(call, 6, 19));
+    told(chunk_payload_data::marshal_to(lent, chunk, operands::first(&user, n)))
+}
+
+// The lists as they stand in the call.
+fn sack_marshal(call: &[u8], lent: &mut [u8]) -> Answer {
+    let mut starts = [0u16; NUMBERS];
+    let mut ends = [0u16; NUMBERS];
+    let mut duplicates = [0u32; NUMBERS];
+    let second = form::behind(call, 14, b's');
+    let n = lists::shorts(&mut starts, call, 14);
+    let m = lists::shorts(&mut ends, call, second);
+    let x = lists::words(&mut duplicates, call, form::behind(call, second, b's'));
+    let starts = lists::first_shorts(&starts, n);
+    let ends = lists::first_shorts(&ends, m);
+    sack_chunk(call, lent, starts, ends, lists::first_words(&duplicates, x))
+}
+
+fn sack_chunk(
+    call: &[u8],
+    lent: &mut [u8],
+    starts: &[u16],
+    ends: &[u16],
+    duplicates: &[u32],
+) -> Answer {
+    let cumulative = operands::u32_at(call, 6);
+    let window = operands::u32_at(call, 10);
+    told(chunk_selective_ack::marshal_to(lent, cumulative, window, starts, ends, duplicates))
+}

@@ -1,0 +1,160 @@
+// What a call answers, before it is written: a word, the flags of a chunk, numbers, and a part of a lent buffer, which is not written here.
+use crate::out;
+use crate::out::SPACE;
+use chunk_payload_data::ChunkPayloadData;
+
+pub struct Answer {
+    pub word: u8,
+    pub flags: u8,
+    pub count: u8,
+    pub numbers: [u64; 5],
+    pub shown: u8,
+    pub from: usize,
+    pub to: usize,
+}
+
+// What is shown behind an answer: no buffer, the one of the message in hand, or the one that is lent to every other call.
+pub const NOTHING: u8 = 0;
+
+pub const HAND: u8 = 1;
+
+pub const SPARE: u8 = 2;
+
+// The words, each in its WIDTH bytes of WORDS.
+pub const YES: u8 = 0;
+
+pub const NO: u8 = 1;
+
+pub const DONE: u8 = 2;
+
+pub const NONE: u8 = 3;
+
+pub const REFUSED: u8 = 4;
+
+pub const NUMBER: u8 = 5;
+
+pub const TSN: u8 = 6;
+
+pub const HEADER: u8 = 7;
+
+pub const DATA: u8 = 8;
+
+pub const PART: u8 = 9;
+
+pub const WROTE: u8 = 10;
+
+pub const SACK: u8 = 11;
+
+pub const BLOCK: u8 = 12;
+
+pub const CHUNK: u8 = 13;
+
+pub const LOG: u8 = 14;
+
+pub const BLOCKS: u8 = 15;
+
+pub const HELD: u8 = 16;
+
+pub const WHOLE: u8 = 17;
+
+pub const MESSAGE: u8 = 18;
+
+pub const PIECE: u8 = 19;
+
+pub const QUEUE: u8 = 20;
+
+pub const FORWARD: u8 = 21;
+
+pub const STREAM: u8 = 22;
+
+pub const EMPTY_HANDED: u8 = 23;
+
+// So many bytes, of which those from a low line on are none of the word.
+const WIDTH: usize = 15;
+
+const WORDS: [u8; 360] =
+    *b"yes____________no_____________done___________none___________refused________number_________tsn____________header_________data___________part___________wrote__________sack___________block__________chunk__________log____________blocks_________held___________whole__________message________piece__________queue__________forward________stream_________nothing in hand";
+
+// The letters of the flags, a space in front, each set of them in its five bytes.
+const LETTERS: [u8; 80] =
+    *b" -___ E___ B___ BE__ U___ UE__ UB__ UBE_ I___ EI__ BI__ BEI_ UI__ UEI_ UBI_ UBEI";
+
+// Stands for the flags where an answer has none to show.
+const UNSHOWN: u8 = 255;
+
+pub fn five(word: u8, count: u8, a: u64, b: u64, c: u64, d: u64, e: u64) -> Answer {
+    Answer {
+        word,
+        flags: UNSHOWN,
+        count,
+        numbers: [a, b, c, d, e],
+        shown: NOTHING,
+        from: 0,
+        to: 0,
+    }
+}
+
+// With this part of a buffer behind it.
+pub fn showing(told: Answer, shown: u8, from: usize, to: usize) -> Answer {
+    let mut told = told;
+    told.shown = shown;
+    told.from = from;
+    told.to = to;
+    told
+}
+
+pub fn plain(word: u8) -> Answer {
+    five(word, 0, 0, 0, 0, 0, 0)
+}
+
+pub fn one(word: u8, a: u64) -> Answer {
+    five(word, 1, a, 0, 0, 0, 0)
+}
+
+pub fn refused(k: u8) -> Answer {
+    one(REFUSED, k as u64)
+}
+
+pub fn is(yes: bool) -> Answer {
+    if yes { plain(YES) } else { plain(NO) }
+}
+
+// Flags, TSN, stream, SSN, identifier, and a size, where it is one of the numbers that are shown.
+pub fn fields(word: u8, count: u8, f: ChunkPayloadData, size: u64) -> Answer {
+    let payload_type = f.payload_type;
+    let identifier = payload_type.to_u32() as u64;
+    let stream = f.stream_identifier as u64;
+    let ssn = f.stream_sequence_number as u64;
+    let mut told = five(word, count, f.tsn as u64, stream, ssn, identifier, size);
+    told.flags = chunk_payload_data::flags_of(f);
+    told
+}
+
+// Onto the line.
+pub fn write(told: Answer, out: &mut [u8; SPACE], at: usize) -> usize {
+    let at = word(told.word, out, at);
+    write_fields(told, out, at)
+}
+
+// The flags and the numbers alone.
+pub fn write_fields(told: Answer, out: &mut [u8; SPACE], at: usize) -> usize {
+    let numbers = told.numbers;
+    let at = flags(told.flags, out, at);
+    out::longs(out, at, &numbers, told.count)
+}
+
+fn word(w: u8, out: &mut [u8; SPACE], at: usize) -> usize {
+    let words = WORDS;
+    let from = WIDTH * (w % 24) as usize;
+    out::text(out, at, out::trimmed(&words, from, from + WIDTH))
+}
+
+// All of 0 to 15; the others are not shown.
+fn flags(f: u8, out: &mut [u8; SPACE], at: usize) -> usize {
+    if 16 <= f {
+        return at;
+    }
+    let letters = LETTERS;
+    let from = 5 * f as usize;
+    out::text(out, at, out::trimmed(&letters, from, from + 5))
+}
