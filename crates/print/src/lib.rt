@@ -16,6 +16,45 @@ pub fn number_line(name: &[u8], n: u64) {
     text(b"\n");
 }
 
+// A text in which each % stands for the next of the numbers.
+pub fn filled(s: &[u8], numbers: [u64; 4]) {
+    let mut next: usize = 0;
+    let mut i: usize = 0;
+    while i < s.len() {
+        if s[i] == b'%' {
+            number(numbers[next % 4]);
+            next = next % 4 + 1;
+        } else {
+            letter(s[i]);
+        }
+        i += 1;
+    }
+}
+
+// The same for one number.
+pub fn with_number(s: &[u8], n: u64) {
+    filled(s, [n, 0, 0, 0]);
+}
+
+// Of texts with a bar between any two, the one that stands behind n bars; nothing where there is none.
+pub fn one_of(texts: &[u8], n: usize) {
+    let mut bars: usize = 0;
+    let mut i: usize = 0;
+    while i < texts.len() {
+        if texts[i] == b'|' {
+            bars = std::num::wrapping_add_usize(bars, 1);
+        } else if bars == n {
+            letter(texts[i]);
+        }
+        i += 1;
+    }
+}
+
+fn letter(b: u8) {
+    let one = [b];
+    text(&one);
+}
+
 // A line of a name and yes or no.
 pub fn flag_line(name: &[u8], set: bool) {
     text(name);
@@ -75,8 +114,7 @@ fn character(b: u8) {
     if b < 0x20 || 0x7E < b {
         text(b".");
     } else {
-        let one = [b];
-        text(&one);
+        letter(b);
     }
 }
 

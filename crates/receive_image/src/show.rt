@@ -15,9 +15,7 @@ pub fn refused(k: u8) {
 }
 
 pub fn arrival(tsn: u32, user_data: &[u8]) {
-    print::text(b"TSN ");
-    print::number(tsn as u64);
-    print::text(b" arrives with ");
+    print::with_number(b"TSN % arrives with ", tsn as u64);
     print::quoted(user_data);
     print::text(b"\n");
 }
@@ -97,9 +95,8 @@ fn gaps(starts: &[u16], ends: &[u16], n: usize) {
 }
 
 fn block(starts: &[u16], ends: &[u16], i: usize) {
-    print::number(at(starts, i) as u64);
-    print::text(b"-");
-    print::number(at(ends, i) as u64);
+    let start = at(starts, i) as u64;
+    print::filled(b"%-%", [start, at(ends, i) as u64, 0, 0]);
 }
 
 fn at(list: &[u16], i: usize) -> u16 {
@@ -132,9 +129,7 @@ pub fn taken(answer: Took, buffer: &[u8]) {
 }
 
 fn image(m: Chunks, buffer: &[u8]) {
-    print::text(b"The image, ");
-    print::number(m.size as u64);
-    print::text(b" bytes:\n  ");
+    print::with_number(b"The image, % bytes:\n  ", m.size as u64);
     print::quoted(print::first(buffer, m.size));
     print::text(b"\n");
 }

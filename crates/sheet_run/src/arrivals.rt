@@ -149,8 +149,6 @@ fn take(
 }
 
 fn message(m: Chunks, buffer: &[u8], fragments: usize) {
-    print::text(b"one message of ");
-    print::number(fragments as u64);
-    print::text(b" fragments, ");
+    print::with_number(b"one message of % fragments, ", fragments as u64);
     print::quoted(print::first(buffer, m.size));
 }

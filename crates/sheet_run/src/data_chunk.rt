@@ -40,35 +40,30 @@ fn read(raw: &[u8]) {
             let user = chunk_payload_data::user_data(raw, &mut refusal);
             flags(f);
             numbers(f);
-            print::text(b", ");
             print::quoted(user);
         }
     }
 }
 
+// U, B and E, by their bits 4, 2 and 1.
 fn flags(f: ChunkPayloadData) {
+    let bits = chunk_payload_data::flags_of(f) % 8;
     print::text(b"DATA, ");
-    if f.unordered {
-        print::text(b"U and ");
-    }
-    if f.beginning_fragment {
-        print::text(b"B and ");
-    }
-    if f.ending_fragment {
-        print::text(b"E");
-    }
+    print::one_of(
+        b"|E|B and |B and E|U and |U and E|U and B and |U and B and E",
+        bits as usize,
+    );
 }
 
 fn numbers(f: ChunkPayloadData) {
-    print::text(b", TSN ");
-    print::number(f.tsn as u64);
-    print::text(b", stream ");
-    print::number(f.stream_identifier as u64);
-    print::text(b", SSN ");
-    print::number(f.stream_sequence_number as u64);
-    print::text(b", identifier ");
     let payload_type = f.payload_type;
-    print::number(payload_type.to_u32() as u64);
+    let tsn = f.tsn as u64;
+    let stream = f.stream_identifier as u64;
+    let ssn = f.stream_sequence_number as u64;
+    print::filled(
+        b", TSN %, stream %, SSN %, identifier %, ",
+        [tsn, stream, ssn, payload_type.to_u32() as u64],
+    );
 }
 
 pub fn p4() {

@@ -18,18 +18,23 @@ fn message(size: usize) -> Chunks {
 
 pub fn p12() {
     print::text(b"P12 Ten bytes, m = 4: ");
-    let m = piece(message(10), b"1234567890", 4);
-    print::text(b", ");
-    let m = piece(m, b"1234567890", 4);
-    print::text(b", ");
-    let m = piece(m, b"1234567890", 4);
-    print::text(b", ");
-    piece(m, b"1234567890", 4);
+    pieces(message(10), b"1234567890", 4);
     print::text(b". Empty message: ");
-    let m = piece(message(0), b"", 4);
-    print::text(b", ");
-    piece(m, b"", 4);
+    pieces(message(0), b"", 2);
     print::text(b".\n");
+}
+
+// The next n pieces of at most four bytes.
+fn pieces(m: Chunks, buffer: &[u8], n: usize) {
+    let mut m = m;
+    let mut i: usize = 0;
+    while i < n {
+        if 0 < i {
+            print::text(b", ");
+        }
+        m = piece(m, buffer, 4);
+        i += 1;
+    }
 }
 
 // Prints how long the next piece is.

@@ -9,38 +9,45 @@ use payload_queue::WORDS;
 
 pub fn p6() {
     print::text(b"P6 ");
-    report(102, 103, 105, 100);
+    report([102, 103, 105], 100);
 }
 
 pub fn p7() {
     print::text(b"P7 ");
-    report(4294967295, 0, 2, 4294967294);
+    report([4294967295, 0, 2], 4294967294);
 }
 
 pub fn p8() {
     print::text(b"P8 ");
-    report(65534, 65535, 65536, 0);
+    report([65534, 65535, 65536], 0);
 }
 
-fn report(a: u32, b: u32, c: u32, cumulative: u32) {
+fn report(tsns: [u32; 3], cumulative: u32) {
     let mut table = [0u32; WORDS];
     let mut starts = [0u16; 2];
     let mut ends = [0u16; 2];
     print::text(b"Queued ");
-    let queue = queue_up(PayloadQueue::new(), &mut table, a, cumulative);
-    print::text(b", ");
-    let queue = queue_up(queue, &mut table, b, cumulative);
-    print::text(b", ");
-    let queue = queue_up(queue, &mut table, c, cumulative);
-    print::text(b", cumulative ");
-    print::number(cumulative as u64);
-    print::text(b": ");
+    let queue = queue_all(&mut table, tsns, cumulative);
+    print::with_number(b", cumulative %: ", cumulative as u64);
     let answer = queue.get_gap_ack_blocks(&table, cumulative, &mut starts, &mut ends);
     match answer {
         Number::Refused(k) => show::refused(k),
         Number::Is(n) => blocks(starts, ends, n),
     }
     print::text(b".\n");
+}
+
+fn queue_all(table: &mut [u32; WORDS], tsns: [u32; 3], cumulative: u32) -> PayloadQueue {
+    let mut queue = PayloadQueue::new();
+    let mut i: usize = 0;
+    while i < 3 {
+        if 0 < i {
+            print::text(b", ");
+        }
+        queue = queue_up(queue, table, tsns[i], cumulative);
+        i += 1;
+    }
+    queue
 }
 
 // Pushes a TSN, and prints it where it is stored.

@@ -26,10 +26,9 @@ fn read(raw: &[u8]) {
     match answer {
         Unmarshalled::Refused(k) => show::refused(k),
         Unmarshalled::Fields(f) => {
-            print::text(b"SACK, cumulative ");
-            print::number(f.cumulative_tsn_ack as u64);
-            print::text(b", a_rwnd ");
-            print::number(f.advertised_receiver_window_credit as u64);
+            let cumulative = f.cumulative_tsn_ack as u64;
+            let window = f.advertised_receiver_window_credit as u64;
+            print::filled(b"SACK, cumulative %, a_rwnd %", [cumulative, window, 0, 0]);
             lists(raw);
         }
     }

@@ -7,9 +7,7 @@ pub fn refused(k: u8) {
 
 // A block, by its start and its end.
 pub fn block(start: u16, end: u16) {
-    print::number(start as u64);
-    print::text(b"-");
-    print::number(end as u64);
+    print::filled(b"%-%", [start as u64, end as u64, 0, 0]);
 }
 
 pub fn flag(answer: Flag) {

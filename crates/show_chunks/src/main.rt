@@ -22,13 +22,10 @@ const P4: [u8; 16] = *b"\x00\x03\x00\x0F\x00\x00\x00\x0A\x00\x02\x00\x05\x00\x00
 fn main() {
     let p2 = P2;
     show_data::show(b"DATA, bench sheet P2", &p2);
-    print::text(b"\n");
     let p5 = P5;
-    show_sack::show(b"SACK, bench sheet P5", &p5);
-    print::text(b"\n");
+    show_sack::show(b"\nSACK, bench sheet P5", &p5);
     let worked = WORKED;
-    show_sack::show(b"SACK, RFC 4960 section 3.3.4", &worked);
-    print::text(b"\n");
+    show_sack::show(b"\nSACK, RFC 4960 section 3.3.4", &worked);
     let p4 = P4;
-    show_data::show(b"DATA of length 15, bench sheet P4", &p4);
+    show_data::show(b"\nDATA of length 15, bench sheet P4", &p4);
 }

@@ -1,4 +1,10 @@
-// The last lines of a chunk that was read and written again, or refused.
+// The first lines and the last ones of a chunk: it was read and written again, or refused.
+
+// The first lines: a title, and the bytes that are read.
+pub fn begun(title: &[u8], raw: &[u8]) {
+    print::text(title);
+    print::bytes_line(b"\n  read                ", raw);
+}
 
 // The last lines of a chunk that was written again: the bytes, and whether they are those that were read.
 pub fn written(raw: &[u8], out: &[u8]) {
@@ -12,22 +18,15 @@ pub fn written(raw: &[u8], out: &[u8]) {
 
 // The last line of a chunk that was not read, or not written again.
 pub fn refused(k: u8) {
-    print::text(b"  refused             ");
-    print::number(k as u64);
+    print::with_number(b"  refused             %", k as u64);
     reason(k);
     print::text(b"\n");
 }
 
-// What the refusals of a chunk call mean.
+// What the refusals of a chunk call mean: 1 to 5, 9 and 10.
 fn reason(k: u8) {
-    match k {
-        1 => print::text(b": fewer than 4 bytes lent"),
-        2 => print::text(b": length below 4 or above the bytes lent"),
-        3 => print::text(b": not the type asked for"),
-        4 => print::text(b": DATA length below 16"),
-        5 => print::text(b": SACK length below 16, or below its lists' end"),
-        9 => print::text(b": too long for a chunk"),
-        10 => print::text(b": buffer too short"),
-        _ => print::text(b""),
-    }
+    print::one_of(
+        b"|: fewer than 4 bytes lent|: length below 4 or above the bytes lent|: not the type asked for|: DATA length below 16|: SACK length below 16, or below its lists' end||||: too long for a chunk|: buffer too short",
+        k as usize,
+    );
 }

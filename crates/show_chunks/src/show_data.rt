@@ -6,9 +6,7 @@ use chunk_payload_data::PayloadProtocolIdentifier;
 use chunk_payload_data::Unmarshalled;
 
 pub fn show(title: &[u8], raw: &[u8]) {
-    print::text(title);
-    print::text(b"\n");
-    print::bytes_line(b"  read                ", raw);
+    outcome::begun(title, raw);
     let answer = chunk_payload_data::unmarshal(raw);
     match answer {
         Unmarshalled::Refused(k) => outcome::refused(k),
@@ -27,31 +25,34 @@ fn show_fields(f: ChunkPayloadData) {
     print::flag_line(b"  beginning fragment  ", f.beginning_fragment);
     print::flag_line(b"  ending fragment     ", f.ending_fragment);
     print::flag_line(b"  immediate sack      ", f.immediate_sack);
-    print::number_line(b"  TSN                 ", f.tsn as u64);
-    print::number_line(b"  stream              ", f.stream_identifier as u64);
-    print::number_line(b"  SSN                 ", f.stream_sequence_number as u64);
     let payload_type = f.payload_type;
-    print::text(b"  payload identifier  ");
-    print::number(payload_type.to_u32() as u64);
-    show_name(payload_type);
-    print::text(b"\n");
+    let tsn = f.tsn as u64;
+    let stream = f.stream_identifier as u64;
+    let ssn = f.stream_sequence_number as u64;
+    print::filled(
+        b"  TSN                 %\n  stream              %\n  SSN                 %\n  payload identifier  %",
+        [tsn, stream, ssn, payload_type.to_u32() as u64],
+    );
+    print::one_of(
+        b" (Dcep)\n| (String)\n| (Binary)\n| (StringEmpty)\n| (BinaryEmpty)\n| (Unknown)\n",
+        name(payload_type),
+    );
 }
 
-fn show_name(payload_type: PayloadProtocolIdentifier) {
+// Its place among the names.
+fn name(payload_type: PayloadProtocolIdentifier) -> usize {
     match payload_type {
-        PayloadProtocolIdentifier::Dcep => print::text(b" (Dcep)"),
-        PayloadProtocolIdentifier::String => print::text(b" (String)"),
-        PayloadProtocolIdentifier::Binary => print::text(b" (Binary)"),
-        PayloadProtocolIdentifier::StringEmpty => print::text(b" (StringEmpty)"),
-        PayloadProtocolIdentifier::BinaryEmpty => print::text(b" (BinaryEmpty)"),
-        PayloadProtocolIdentifier::Unknown => print::text(b" (Unknown)"),
+        PayloadProtocolIdentifier::Dcep => 0,
+        PayloadProtocolIdentifier::String => 1,
+        PayloadProtocolIdentifier::Binary => 2,
+        PayloadProtocolIdentifier::StringEmpty => 3,
+        PayloadProtocolIdentifier::BinaryEmpty => 4,
+        PayloadProtocolIdentifier::Unknown => 5,
     }
 }
 
 fn show_user_data(user: &[u8]) {
-    print::text(b"  user data           ");
-    print::number(user.len() as u64);
-    print::text(b" bytes: ");
+    print::with_number(b"  user data           % bytes: ", user.len() as u64);
     print::bytes(user);
     print::text(b", ");
     print::quoted(user);

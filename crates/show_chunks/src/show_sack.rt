@@ -11,9 +11,7 @@ use chunk_selective_ack::Unmarshalled;
 const MOST: usize = 16379;
 
 pub fn show(title: &[u8], raw: &[u8]) {
-    print::text(title);
-    print::text(b"\n");
-    print::bytes_line(b"  read                ", raw);
+    outcome::begun(title, raw);
     let answer = chunk_selective_ack::unmarshal(raw);
     match answer {
         Unmarshalled::Refused(k) => outcome::refused(k),
@@ -21,12 +19,12 @@ pub fn show(title: &[u8], raw: &[u8]) {
             let mut refusal: u8 = 0;
             let blocks = chunk_selective_ack::gap_ack_blocks(raw, &mut refusal);
             let tsns = chunk_selective_ack::duplicate_tsns(raw, &mut refusal);
-            print::number_line(b"  cumulative TSN      ", f.cumulative_tsn_ack as u64);
-            print::number_line(
-                b"  a_rwnd              ",
-                f.advertised_receiver_window_credit as u64,
+            let cumulative = f.cumulative_tsn_ack as u64;
+            let window = f.advertised_receiver_window_credit as u64;
+            print::filled(
+                b"  cumulative TSN      %\n  a_rwnd              %\n  gap ack blocks      %\n",
+                [cumulative, window, f.gap_ack_blocks as u64, 0],
             );
-            print::number_line(b"  gap ack blocks      ", f.gap_ack_blocks as u64);
             show_blocks(blocks);
             print::number_line(b"  duplicate TSNs      ", f.duplicate_tsns as u64);
             show_tsns(tsns);
@@ -48,11 +46,10 @@ fn show_blocks(part: &[u8]) {
 }
 
 fn show_block(b: GapAckBlock) {
-    print::text(b"    block             ");
-    print::number(b.start as u64);
-    print::text(b"-");
-    print::number(b.end as u64);
-    print::text(b"\n");
+    print::filled(
+        b"    block             %-%\n",
+        [b.start as u64, b.end as u64, 0, 0],
+    );
 }
 
 fn show_tsns(part: &[u8]) {
