@@ -11,7 +11,8 @@ use lib.ListN.{length, getD, drop, set, length-append, length-drop, length-map, 
 use lib.Seq.{drop-cons, drop-drop, set-set}
 use borrow.Author.Tests.{eqb-true, eq-eqb, ne-eqb, ltb-true, ltb-false}
 use Rattle.serial.specs.Serial.{ahead, next}
-use Rattle.gap_report.specs.Gap.{Block, block, walk, adjacent, endsOf}
+use Rattle.gap_report.specs.Gap.{Block, block, walk, endsOf}
+use Rattle.gap_report.specs.Adjacent.{adjacent}
 use Rattle.gap_report.proofs.Walk.{Seen, Put, held, held-at, held-long, last, grown, counted, walk-cons, want-snoc, wantFrom, over-last, put-grow}
 
 -- the TSN after one that counts is one offset on

@@ -1,11 +1,11 @@
 -- The gap report of document 01: the walk over the held TSNs, in stored order, and what it leaves in the two lent lists.
 -- Assumes nothing.
-use Prim.Native.Nat.{ℕ, zero, suc, _+_}
+use Prim.Native.Nat.{ℕ, _+_}
 use mathlib.Core.Bool.{Bool, cond, _&&_}
 use mathlib.Core.List.{List, [], _∷_, map}
 use lib.Dec.{ltb, leb, eqb}
 use lib.ListN.{length}
-use Rattle.serial.specs.Serial.{ahead, next}
+use Rattle.serial.specs.Serial.{ahead}
 use Rattle.wire.specs.BigEndian.{over}
 use Rattle.table.specs.declared.Row.{Row}
 use Rattle.gap_report.specs.declared.Reported.{Reported}
@@ -38,12 +38,6 @@ taken cum bs t = cond (counts (ahead 32 cum t)) (extend bs (ahead 32 cum t)) bs
 unfoldable pub walk : ℕ → List Block → List ℕ → List Block
 walk cum bs [] = bs
 walk cum bs (t ∷ ts) = walk cum (taken cum bs t) ts
-
--- how many of the TSNs at the front of a list follow one another, from t on; at most k
-unfoldable pub adjacent : ℕ → ℕ → List ℕ → ℕ
-adjacent zero t ts = 0
-adjacent (suc k) t [] = 0
-adjacent (suc k) t (x ∷ ts) = cond (eqb x t) (suc (adjacent k (next 32 t) ts)) 0
 
 -- the blocks of a cumulative TSN and a list of TSNs
 abbrev pub blocks : ℕ → List ℕ → List Block

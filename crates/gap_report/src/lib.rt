@@ -6,7 +6,8 @@ ghost use lib.Dec.{ltb};
 ghost use lib.ListN.{length, take, drop};
 ghost use Rattle.wire.specs.BigEndian.{over};
 ghost use Rattle.table.specs.Rows.{rowsOf};
-ghost use Rattle.gap_report.specs.Gap.{blocks, adjacent, tsnsOf, startsOf, endsOf, report, reported};
+ghost use Rattle.gap_report.specs.Adjacent.{adjacent};
+ghost use Rattle.gap_report.specs.Gap.{blocks, tsnsOf, startsOf, endsOf, report, reported};
 
 // The farthest offset that a report names: 16 bits.
 const FARTHEST: u32 = 65535;
