@@ -161,10 +161,6 @@ pub fit-put : (at : ℕ) (new xs : List Frag) → Fit new → Fit xs → Fit (pu
 unfolding put
 fit-put at new xs h k = fit-append (take at xs) _ (fit-take at xs k) (fit-append new _ h (fit-drop at xs k))
 
-pub fit-gone : (at k : ℕ) (xs : List Frag) → Fit xs → Fit (gone at k xs)
-unfolding gone
-fit-gone at k xs h = fit-append (take at xs) _ (fit-take at xs h) (fit-drop (at + k) xs h)
-
 pub fit-turned : (a b e : ℕ) (xs : List Frag) → Fit xs → Fit (turned a b e xs)
 unfolding turned slice
 fit-turned a b e xs h =
