@@ -15,8 +15,8 @@ use Rattle.payload_queue.specs.declared.PayloadQueue.{PayloadQueue}
 use Rattle.reassembly_state.specs.State as fragments
 use Rattle.reassembly_queue.specs.Queue.{stateOf}
 use Rattle.reassembly_queue.specs.declared.ReassemblyQueue.{ReassemblyQueue}
-use Rattle.sctp_receive_model.specs.Result.{refusalOf, told, done}
-use Rattle.sctp_receive_model.specs.Facts.{result-one}
+use Rattle.sctp_receive_result.specs.Result.{refusalOf, told, done}
+use Rattle.sctp_receive_result.specs.Facts.{result-one}
 use Rattle.one_answer.proofs.Only.{Only, both}
 use Rattle.one_answer.proofs.States.{TsnWords, tsn-struct-one, tsn-words-one, FragmentWords, rq-struct-one, rq-words-one, rq-pool-one}
 

@@ -18,9 +18,9 @@ use Rattle.chunk_selective_ack.specs.Sack.{SackFront, sackRead, sackWritten, Bl
 use Rattle.chunk_forward_tsn.specs.Layout.{Pair, pair}
 use Rattle.chunk_forward_tsn.specs.ForwardTsn.{Forward, forward, ForwardFront, forwardRead, PairFront, pairRead, forwardWritten}
 use Rattle.chunk_theorems.proofs.Fronts.{header-some, data-some, sack-some, block-some, tsn-some, forward-some, pair-some}
-use Rattle.sctp_receive_model.specs.Result.{told}
+use Rattle.sctp_receive_result.specs.Result.{told}
 use Rattle.sctp_receive_model.specs.Fields.{valuesFrom}
-use Rattle.sctp_receive_model.specs.Places.{Span, span, userSpan, blocksSpan, duplicatesSpan, pairsSpan}
+use Rattle.sctp_receive_result.specs.Places.{Span, span, userSpan, blocksSpan, duplicatesSpan, pairsSpan}
 use Rattle.one_answer.proofs.Only.{Only, named-one}
 use Rattle.one_answer.proofs.C.{Said, Word, read-one, Wrote, wrote-one}
 

@@ -23,7 +23,7 @@ use Rattle.reassembly_queue.specs.Queue.{stateOf}
 use Rattle.reassembly_queue.specs.declared.ReassemblyQueue.{ReassemblyQueue}
 use Rattle.forward_tsn.specs.Applied.{Pairs, appliedToStream, appliedToTsns}
 use Rattle.forward_theorems.proofs.Pairs.{pairs-some}
-use Rattle.sctp_receive_model.specs.Result.{told, done}
+use Rattle.sctp_receive_result.specs.Result.{told, done}
 use Rattle.sctp_receive_model.specs.States.{handFrom}
 use Rattle.one_answer.proofs.Only.{Only, named-one, both}
 use Rattle.one_answer.proofs.States.{TsnWords, tsn-struct-one, FragmentWords}

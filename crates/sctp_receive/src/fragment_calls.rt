@@ -5,7 +5,7 @@ ghost use mathlib.Core.Path.{_≡_};
 ghost use Rattle.reassembly_state.specs.State.{after, pushed, isReadable, reads, read, forwardOrdered, forwardUnordered, numBytes};
 ghost use Rattle.reassembly_queue.specs.Queue.{fresh};
 ghost use Rattle.forward_tsn.specs.Applied.{Pairs, appliedToStream};
-ghost use Rattle.sctp_receive_model.specs.Result.{told, done};
+ghost use Rattle.sctp_receive_result.specs.Result.{told, done};
 ghost use Rattle.sctp_receive_model.specs.Fields.{chunkFrom};
 ghost use Rattle.sctp_receive_model.specs.States.{fragmentCounts, stateFrom, messageFrom};
 use chunk_payload_data::ChunkPayloadData;

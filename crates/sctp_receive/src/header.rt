@@ -3,7 +3,7 @@ ghost use mathlib.Core.Path.{_≡_};
 ghost use lib.ListN.{length};
 ghost use Rattle.chunk.specs.Layout.{header};
 ghost use Rattle.chunk.specs.Header.{HeaderFront, headerRead, headerChecks};
-ghost use Rattle.sctp_receive_model.specs.Result.{told};
+ghost use Rattle.sctp_receive_result.specs.Result.{told};
 use chunk::chunk_header;
 use chunk::chunk_header::Unmarshalled;
 

@@ -3,7 +3,7 @@
 ghost use mathlib.Core.Path.{_≡_};
 ghost use Rattle.wire.specs.Refusal.{written};
 ghost use Rattle.chunks.specs.Message.{size, isEmpty, wholeRead, after, nextPiece};
-ghost use Rattle.sctp_receive_model.specs.Result.{told};
+ghost use Rattle.sctp_receive_result.specs.Result.{told};
 ghost use Rattle.sctp_receive_model.specs.States.{handFrom, pieceFrom};
 
 // How many bytes the message has.

@@ -4,7 +4,7 @@ ghost use mathlib.Core.Path.{_≡_};
 ghost use Rattle.payload_model.specs.Queue.{after, rowOf, pushed, canPush, popped, poppedUpTo, poppedDuplicates};
 ghost use Rattle.payload_queue.specs.Queue.{fresh};
 ghost use Rattle.forward_tsn.specs.Applied.{appliedToTsns};
-ghost use Rattle.sctp_receive_model.specs.Result.{told, done};
+ghost use Rattle.sctp_receive_result.specs.Result.{told, done};
 ghost use Rattle.sctp_receive_model.specs.Fields.{chunkFrom, valuesFrom, foundFrom};
 ghost use Rattle.sctp_receive_model.specs.States.{tsnCounts, tsnsFrom, handedFrom};
 use chunk_payload_data::ChunkPayloadData;

@@ -2,7 +2,7 @@
 ghost use mathlib.Core.Path.{_≡_};
 ghost use Rattle.payload_model.specs.Queue.{got, containsStream, counted, isEmpty, numBytes, lastTsn};
 ghost use Rattle.payload_model.specs.GapCall.{lists, gapReport};
-ghost use Rattle.sctp_receive_model.specs.Result.{told};
+ghost use Rattle.sctp_receive_result.specs.Result.{told};
 ghost use Rattle.sctp_receive_model.specs.Fields.{valuesFrom, foundFrom};
 ghost use Rattle.sctp_receive_model.specs.States.{tsnsFrom, lastFrom};
 use payload_queue::LOG;

@@ -4,8 +4,8 @@ ghost use lib.ListN.{length};
 ghost use Rattle.wire.specs.Refusal.{written};
 ghost use Rattle.chunk_forward_tsn.specs.Layout.{pair};
 ghost use Rattle.chunk_forward_tsn.specs.ForwardTsn.{forward, ForwardFront, forwardRead, PairFront, pairRead, forwardWritten};
-ghost use Rattle.sctp_receive_model.specs.Result.{told, back};
-ghost use Rattle.sctp_receive_model.specs.Places.{span, pairsSpan};
+ghost use Rattle.sctp_receive_result.specs.Result.{told, back};
+ghost use Rattle.sctp_receive_result.specs.Places.{span, pairsSpan};
 use chunk_forward_tsn::StreamAt;
 use chunk_forward_tsn::Unmarshalled;
 

@@ -4,7 +4,7 @@ ghost use mathlib.Core.Path.{_≡_};
 ghost use Rattle.payload_model.specs.Queue as tsns;
 ghost use Rattle.reassembly_state.specs.State as stream;
 ghost use Rattle.forward_tsn.specs.Applied.{Pairs, appliedToStream, appliedToTsns};
-ghost use Rattle.sctp_receive_model.specs.Result.{done, back};
+ghost use Rattle.sctp_receive_result.specs.Result.{done, back};
 ghost use Rattle.sctp_receive_model.specs.States.{tsnsFrom, stateFrom};
 use payload_queue::Done;
 use reassembly_queue::ReassemblyQueue;

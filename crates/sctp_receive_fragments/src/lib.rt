@@ -3,7 +3,7 @@
 ghost use mathlib.Core.Path.{_≡_};
 ghost use Rattle.chunks.specs.Message.{flagTold, numberTold, pieceTold};
 ghost use Rattle.reassembly_state.specs.Answers.{tookTold, doneTold};
-ghost use Rattle.sctp_receive_model.specs.Result.{told, back, done};
+ghost use Rattle.sctp_receive_result.specs.Result.{told, back, done};
 ghost use Rattle.sctp_receive_model.specs.States.{fragmentCounts, messageFrom, handFrom, pieceFrom};
 use chunk_payload_data::PayloadProtocolIdentifier;
 use chunks::Chunks;

@@ -4,7 +4,7 @@ ghost use mathlib.Core.Path.{_≡_};
 ghost use Rattle.payload_model.specs.Queue.{after, rowOf, zeros, pushed};
 ghost use Rattle.payload_model.specs.Log.{noted};
 ghost use Rattle.payload_model.specs.Answers.{flagTold, numberTold, takenTold};
-ghost use Rattle.sctp_receive_model.specs.Result.{told, back};
+ghost use Rattle.sctp_receive_result.specs.Result.{told, back};
 ghost use Rattle.sctp_receive_model.specs.Fields.{valuesFrom, foundFrom};
 ghost use Rattle.sctp_receive_model.specs.States.{tsnCounts, tsnsFrom};
 use chunk_payload_data::ChunkPayloadData;

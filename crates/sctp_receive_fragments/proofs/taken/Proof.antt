@@ -2,7 +2,7 @@
 -- Assumes nothing.
 use borrow.Author.Needs.{needs}
 use native.Mathlib.Omega.{arith}
-use Rattle.sctp_receive_model.proofs.Codes.{back-refuse}
+use Rattle.sctp_receive_result.proofs.Codes.{back-refuse}
 use Rattle.reassembly_state.specs.Answers.{messageHeld}
 use Rattle.sctp_receive_fragments.proofs.taken.Statement.{statement}
 use Rattle.sctp_receive_fragments.proofs.taken.Tie as tie

@@ -4,7 +4,7 @@ use borrow.Author.Needs.{needs}
 use Rattle.chunk_payload_data.specs.Data.{dataSent}
 use Rattle.payload_model.specs.Queue.{rowOf}
 use Rattle.payload_model.specs.Log.{pushed-log}
-use Rattle.sctp_receive_model.proofs.Codes.{log-noted}
+use Rattle.sctp_receive_model.proofs.Left.{log-noted}
 use Rattle.sctp_receive_tsns.proofs.push.Statement.{statement}
 use Rattle.sctp_receive_tsns.proofs.push.Tie as tie
 

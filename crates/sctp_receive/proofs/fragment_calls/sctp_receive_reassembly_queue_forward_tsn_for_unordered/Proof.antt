@@ -2,7 +2,7 @@
 -- Assumes nothing.
 use mathlib.Core.Path.{_∙_}
 use borrow.Author.Needs.{needs}
-use Rattle.sctp_receive_model.proofs.Codes.{fragments-left}
+use Rattle.sctp_receive_model.proofs.Left.{fragments-left}
 use Rattle.sctp_receive.proofs.fragment_calls.sctp_receive_reassembly_queue_forward_tsn_for_unordered.Statement.{statement}
 use Rattle.sctp_receive.proofs.fragment_calls.sctp_receive_reassembly_queue_forward_tsn_for_unordered.Tie as tie
 

@@ -2,7 +2,7 @@
 -- Assumes nothing.
 use mathlib.Core.Path.{_∙_}
 use borrow.Author.Needs.{needs}
-use Rattle.sctp_receive_model.proofs.Codes.{reads-left}
+use Rattle.sctp_receive_model.proofs.Left.{reads-left}
 use Rattle.sctp_receive.proofs.fragment_calls.sctp_receive_reassembly_queue_read.Statement.{statement}
 use Rattle.sctp_receive.proofs.fragment_calls.sctp_receive_reassembly_queue_read.Tie as tie
 

@@ -1,7 +1,7 @@
 -- `sctp_receive_chunks_next` answers and leaves what the call below it does, which leaves SSN and identifier as they were.
 -- Assumes nothing.
 use borrow.Author.Needs.{needs}
-use Rattle.sctp_receive_model.proofs.Codes.{hand-left}
+use Rattle.sctp_receive_model.proofs.Left.{hand-left}
 use Rattle.sctp_receive.proofs.message.sctp_receive_chunks_next.Statement.{statement}
 use Rattle.sctp_receive.proofs.message.sctp_receive_chunks_next.Tie as tie
 

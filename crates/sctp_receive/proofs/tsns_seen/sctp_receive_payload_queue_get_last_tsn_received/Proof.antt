@@ -3,7 +3,7 @@
 use borrow.Author.Needs.{needs}
 use Rattle.payload_model.specs.Queue.{lastTsn, unsound}
 use native.Mathlib.Omega.{arith}
-use Rattle.sctp_receive_model.proofs.Codes.{says-refuse}
+use Rattle.sctp_receive_result.proofs.Codes.{says-refuse}
 use Rattle.sctp_receive.proofs.tsns_seen.sctp_receive_payload_queue_get_last_tsn_received.Statement.{statement}
 use Rattle.sctp_receive.proofs.tsns_seen.sctp_receive_payload_queue_get_last_tsn_received.Tie as tie
 

@@ -9,8 +9,8 @@ use Rattle.wire.specs.Refusal.{first}
 use Rattle.wire.proofs.Reading.{refused, accepted}
 use Rattle.chunk_forward_tsn.specs.ForwardTsn.{Forward, forward, forwardChecks, forwardRead}
 use Rattle.chunk_theorems.proofs.ForwardTrips.{forward-accepted}
-use Rattle.sctp_receive_model.specs.Places.{pairsSpan}
-use Rattle.sctp_receive_model.proofs.Codes.{back-refuse}
+use Rattle.sctp_receive_result.specs.Places.{pairsSpan}
+use Rattle.sctp_receive_result.proofs.Codes.{back-refuse}
 use Rattle.sctp_receive_codecs.proofs.forward_tsn.streams.Statement.{statement}
 use Rattle.sctp_receive_codecs.proofs.forward_tsn.streams.Tie as tie
 

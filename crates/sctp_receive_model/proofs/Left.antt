@@ -1,14 +1,10 @@
--- What a result says, and what stands beside it: the laws that every call's proof applies.
+-- What a call leaves beside its result: the laws that the queues' calls and those of the message in hand apply.
 -- Assumes nothing.
 use mathlib.Core.Path.{_≡_, refl, sym, ap, _∙_}
 use mathlib.Core.Bool.{Bool, true, false, cond}
 use mathlib.Core.List.{List}
-use Prim.Native.Nat.{ℕ, _<_, _^_}
-use native.Mathlib.Omega.{arith}
-use mir.Syntax.{w32}
-use mir.Val.{toZ}
-use mir.Facts.{toZ-pos}
-use Rattle.wire.specs.Refusal.{refuse, Told, says}
+use Prim.Native.Nat.{ℕ}
+use Rattle.wire.specs.Refusal.{Told, says}
 use Rattle.payload_model.specs.Queue as tsns
 use Rattle.payload_model.specs.Log.{withLog, leftWithLog, noted, leftNoted}
 use Rattle.payload_queue.specs.Queue.{queueOf}
@@ -22,16 +18,7 @@ use Rattle.reassembly_state.specs.State as fragments
 use Rattle.reassembly_queue.specs.Queue.{stateOf}
 use Rattle.reassembly_state.specs.Model.{Message}
 use Rattle.reassembly_queue.specs.declared.ReassemblyQueue.{ReassemblyQueue}
-use Rattle.sctp_receive_model.specs.Result.{refusalOf, back}
 use Rattle.sctp_receive_model.specs.States.{tsnCounts, tsnsFrom, handFrom, handedFrom}
-
--- a byte is below 2^31, so that its 32 bits, read with a sign, are its number ..
-pub says-refuse : (k : ℕ) → k < 2 ^ 8 → refusalOf (toZ w32 k) ≡ refuse k
-says-refuse k h = rw (toZ-pos w32 {n = k} (omega arith))
-
--- .. also read back from a call's result
-pub back-refuse : (k : ℕ) → k < 2 ^ 8 → refusalOf (back (toZ w32 k)) ≡ refuse k
-back-refuse k h = rw (toZ-pos w32 {n = k} (omega arith), toZ-pos w32 {n = k} (omega arith))
 
 -- equal answers and equal counts, over the same words, are the same outcome of the TSN queue ..
 pub tsns-left : {A : Type 0} {t u : Told A} {p q : PayloadQueue} (ws : List ℕ) → t ≡ u → p ≡ q → tsns.after t (queueOf p ws) ≡ tsns.after u (queueOf q ws)

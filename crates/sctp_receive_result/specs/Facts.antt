@@ -20,8 +20,8 @@ use Rattle.chunk_payload_data.specs.Data.{dataChecks, userData}
 use Rattle.chunk_selective_ack.specs.Layout.{Sack}
 use Rattle.chunk_selective_ack.specs.Sack.{sackChecks, blocksPart, duplicatesPart}
 use Rattle.chunk_forward_tsn.specs.ForwardTsn.{forwardChecks, pairsPart}
-use Rattle.sctp_receive_model.specs.Result.{refusalOf}
-use Rattle.sctp_receive_model.specs.Places.{Span, span, userSpan, blocksSpan, duplicatesSpan, pairsSpan}
+use Rattle.sctp_receive_result.specs.Result.{refusalOf}
+use Rattle.sctp_receive_result.specs.Places.{Span, span, userSpan, blocksSpan, duplicatesSpan, pairsSpan}
 
 -- ── no two results of 32 bits say the same ──
 

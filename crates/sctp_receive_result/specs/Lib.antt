@@ -1,0 +1,3 @@
+pub mod Result
+pub mod Places
+pub mod Facts
