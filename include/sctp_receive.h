@@ -49,6 +49,7 @@ extern "C" {
 #define SCTP_RECEIVE_NO_ROOM 10         /* write or take buffer, or a gap report list, too short */
 #define SCTP_RECEIVE_PAST_THE_LIST 11   /* list index at or past its count */
 #define SCTP_RECEIVE_BAD_FORWARD 12     /* FORWARD TSN length below 8, or not 8 plus a multiple of 4 */
+#define SCTP_RECEIVE_NO_DATA 15         /* DATA without data: length 16, or nothing to write */
 
 /* ---- sizes ---- */
 
@@ -90,16 +91,16 @@ bool sctp_receive_sna16eq(uint16_t i1, uint16_t i2);
 int32_t sctp_receive_header_unmarshal(const uint8_t *raw, size_t raw_len,
                                       uint8_t *typ, uint8_t *flags, uint16_t *size);
 
-/* The fields of a DATA chunk. Refuses 1, 2, 3, 4. */
+/* The fields of a DATA chunk. Refuses 1, 2, 3, 4, 15. */
 int32_t sctp_receive_data_unmarshal(const uint8_t *raw, size_t raw_len,
                                     bool *unordered, bool *beginning_fragment, bool *ending_fragment, bool *immediate_sack,
                                     uint32_t *tsn, uint16_t *stream_identifier, uint16_t *stream_sequence_number,
                                     uint32_t *payload_type);
 
-/* Where its user data stands: `*size` bytes from raw + *start on. Refuses 1, 2, 3, 4. */
+/* Where its user data stands: `*size` bytes from raw + *start on. Refuses 1, 2, 3, 4, 15. */
 int32_t sctp_receive_data_user_data(const uint8_t *raw, size_t raw_len, size_t *start, size_t *size);
 
-/* Writes a DATA chunk. Refuses 9 (more than 65,519 bytes), 10. */
+/* Writes a DATA chunk. Refuses 15 (no data), 9 (more than 65,519 bytes), 10. */
 int32_t sctp_receive_data_marshal_to(uint8_t *out, size_t out_len,
                                      bool unordered, bool beginning_fragment, bool ending_fragment, bool immediate_sack,
                                      uint32_t tsn, uint16_t stream_identifier, uint16_t stream_sequence_number,

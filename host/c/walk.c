@@ -284,6 +284,7 @@ static void give_up(void)
 static void refused(void)
 {
     static const uint8_t half[] = {192, 0, 0, 10, 0, 0, 0, 3, 0, 2};
+    static const uint8_t bare[] = {0, 3, 0, 16, 0, 0, 0, 10, 0, 2, 0, 5, 0, 0, 0, 51};
     uint8_t typ, flags;
     uint16_t size, blocks, duplicates;
     uint32_t cumulative, window;
@@ -293,6 +294,9 @@ static void refused(void)
     same("a length above what is lent", sctp_receive_header_unmarshal(wire[0], 16, &typ, &flags, &size), SCTP_RECEIVE_BAD_LENGTH);
     same("DATA, and a SACK is asked for", sctp_receive_sack_unmarshal(wire[0], CHUNK, &cumulative, &window, &blocks, &duplicates),
          SCTP_RECEIVE_OTHER_TYPE);
+    size_t start = 7, bytes = 7;
+    same("DATA without data", sctp_receive_data_user_data(bare, sizeof bare, &start, &bytes), SCTP_RECEIVE_NO_DATA);
+    same("and 0 beside it", (long long)start + (long long)bytes, 0);
     same("half a pair", sctp_receive_forward_tsn_unmarshal(half, sizeof half, &cumulative, &blocks), SCTP_RECEIVE_BAD_FORWARD);
     same("and 0 beside it", (long long)cumulative + blocks, 0);
     same("a count above the table",

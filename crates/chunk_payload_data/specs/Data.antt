@@ -2,7 +2,7 @@
 -- Assumes nothing.
 use Prim.Native.Nat.{ℕ, _+_, _-_, _/_, _%_}
 use mathlib.Core.Bool.{Bool, false, cond}
-use mathlib.Core.List.{List, [], _∷_}
+use mathlib.Core.List.{List, [], _∷_, _++_}
 use lib.Dec.{ltb, eqb}
 use lib.ListN.{length}
 use denote.Ref.{RefT}
@@ -95,9 +95,13 @@ dataTold (answers.Refused k) = says (refuse k) noData
 abbrev pub DataFront : List ℕ → Type 0
 DataFront raw = HeadedFront dataValue DataFits raw
 
--- 3: the type is not 0; 4: "DATA length below 16"
+-- 15: "Reading length 16", which leaves no byte of data
+abbrev pub dataOnly : Header → List Check
+dataOnly h = when (eqb (h .size) 16) 15 ∷ []
+
+-- 3: the type is not 0; 4: "DATA length below 16"; then 15
 abbrev pub dataChecks : ℕ → Header → List Check
-dataChecks lent h = kindChecks 0 16 4 lent h
+dataChecks lent h = kindChecks 0 16 4 lent h ++ dataOnly h
 
 unfoldable pub dataRead : ℕ → Headed Data → Told DataValues
 dataRead lent h = answer noData (first (dataChecks lent (h .header))) (dataShown (h .header .flags) (h .fields))
@@ -116,6 +120,9 @@ unfoldable pub dataSent : ChunkPayloadData → Data
 dataSent p =
     record { tsn = p .tsn; stream = p .«stream_identifier»; ssn = p .«stream_sequence_number»; identifier = identifierNumber (p .«payload_type») }
 
--- 9: "DATA above 65,519 data bytes"
+-- 15: "writing empty data"; 9: "DATA above 65,519 data bytes"
+abbrev pub sizeChecks : ℕ → List Check
+sizeChecks n = when (eqb n 0) 15 ∷ when (ltb 65519 n) 9 ∷ []
+
 unfoldable pub dataWritten : ChunkPayloadData → List ℕ → List ℕ → Written
-dataWritten p user out = write (when (ltb 65519 (length user)) 9 ∷ []) (dataChunk (dataFlags p) (dataSent p) user) out
+dataWritten p user out = write (sizeChecks (length user)) (dataChunk (dataFlags p) (dataSent p) user) out

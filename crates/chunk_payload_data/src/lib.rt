@@ -3,10 +3,10 @@ ghost use mathlib.Core.Path.{_≡_};
 ghost use Prim.Native.Nat.{_≤_};
 ghost use lib.ListN.{length};
 ghost use Rattle.wire.specs.Refusal.{written};
-ghost use Rattle.chunk.specs.Header.{HeaderFront};
+ghost use Rattle.chunk.specs.Header.{HeaderFront, headerTold, headerRead, Room};
 ghost use Rattle.chunk.specs.Marshal.{marshalTold};
 ghost use Rattle.chunk.specs.Part.{part};
-ghost use Rattle.chunk_payload_data.specs.Data.{identifierNumber, identifierName, DataFront, dataTold, dataRead, dataHeld, dataShown, userData, dataFlags, weighed, dataWritten};
+ghost use Rattle.chunk_payload_data.specs.Data.{identifierNumber, identifierName, DataFront, dataTold, dataChecks, dataRead, dataHeld, dataShown, userData, dataFlags, weighed, dataWritten};
 use chunk::ACCEPTED;
 use chunk::Marshalled;
 use chunk::chunk_header;
@@ -68,12 +68,30 @@ impl PayloadProtocolIdentifier {
     }
 }
 
+// The header of the DATA chunk that the lent bytes begin with, if that is one whole chunk with data.
+pub fn header(raw: &[u8]) -> chunk_header::Unmarshalled
+    ensures { λ r. ⌜ ((f : HeaderFront (now (raw .entry))) → headerTold r ≡ headerRead (dataChecks (length (now (raw .entry))) (f .fields)) (f .fields)) ⌝ }
+    ensures { λ r. ⌜ Room 16 (length (now (raw .entry))) r ⌝ }
+{
+    let any = chunk_header::unmarshal_as(raw, 0, 16, 4);
+    match any {
+        chunk_header::Unmarshalled::Refused(k) => chunk_header::Unmarshalled::Refused(k),
+        chunk_header::Unmarshalled::Header(h) => {
+            let length = h.length;
+            if length == 16 {
+                return chunk_header::Unmarshalled::Refused(15);
+            }
+            chunk_header::Unmarshalled::Header(h)
+        }
+    }
+}
+
 // The fields of the DATA chunk that the lent bytes begin with.
 pub fn unmarshal(raw: &[u8]) -> Unmarshalled
     ensures { λ r. ⌜ ((f : DataFront (now (raw .entry))) → dataTold r ≡ dataRead (length (now (raw .entry))) (f .fields)) ⌝ }
 {
-    let header = chunk_header::unmarshal_as(raw, 0, 16, 4);
-    match header {
+    let any = header(raw);
+    match any {
         chunk_header::Unmarshalled::Refused(k) => Unmarshalled::Refused(k),
         chunk_header::Unmarshalled::Header(h) => {
             let flags = h.flags;
@@ -108,8 +126,8 @@ fn fields(raw: &[u8], flags: u8) -> ChunkPayloadData
 pub fn user_data<'a>(raw: &'a [u8], refusal: &mut u8) -> &'a [u8]
     ensures { λ r. ⌜ ((f : HeaderFront (now (raw .entry))) → part (now (refusal .exit)) r ≡ userData (raw .entry) (f .fields)) ⌝ }
 {
-    let header = chunk_header::unmarshal_as(raw, 0, 16, 4);
-    match header {
+    let any = header(raw);
+    match any {
         chunk_header::Unmarshalled::Refused(k) => {
             *refusal = k;
             &raw[..0]
@@ -144,6 +162,9 @@ pub fn flags_of(fields: ChunkPayloadData) -> u8
 pub fn marshal_to(out: &mut [u8], fields: ChunkPayloadData, user: &[u8]) -> Marshalled
     ensures { λ r. ⌜ written (marshalTold r) (now (out .exit)) ≡ dataWritten fields (now (user .entry)) (now (out .entry)) ⌝ }
 {
+    if user.len() == 0 {
+        return Marshalled::Refused(15);
+    }
     if 65519 < user.len() {
         return Marshalled::Refused(9);
     }

@@ -5,7 +5,7 @@ use mathlib.Core.Bool.{Bool, true, false}
 use mathlib.Core.List.{List, _++_}
 use Prim.Native.Nat.{ℕ, _+_, _-_, _*_, _/_, _%_, _^_, _<_, _≤_}
 use native.Mathlib.Omega.{arith}
-use borrow.Author.Tests.{eqb-true, eqb-false}
+use borrow.Author.Tests.{ne-eqb, eqb-true, eqb-false}
 use lib.Dec.{eqb}
 use lib.ListN.{length, take, drop, length-drop}
 use lib.Seq.{take-all, take-at}
@@ -13,9 +13,10 @@ use denote.Ref.{RefT}
 use Rattle.wire.specs.Refusal.{none, says, first}
 use Rattle.chunk.specs.Layout.{Header, header}
 use Rattle.chunk_payload_data.specs.Layout.{Data, DataFits, dataValue, dataChunk}
-use Rattle.chunk.specs.Header.{HeaderFront, Headed, HeadedFits}
+use Rattle.wire.proofs.Reading.{first-passed, none-both}
+use Rattle.chunk.specs.Header.{HeaderFront, kindChecks, Headed, HeadedFits}
 use Rattle.chunk.specs.Part.{Part}
-use Rattle.chunk_payload_data.specs.Data.{identifierNumber, identifierName, flagSet, weighed, DataValues, dataShown, dataHeld, dataTold, DataFront, dataChecks, dataRead, userData, dataFlags, dataSent}
+use Rattle.chunk_payload_data.specs.Data.{identifierNumber, identifierName, flagSet, weighed, DataValues, dataShown, dataHeld, dataTold, DataFront, dataOnly, dataChecks, dataRead, userData, dataFlags, dataSent}
 use Rattle.chunk_payload_data.specs.declared.ChunkPayloadData.{ChunkPayloadData}
 use Rattle.chunk_payload_data.specs.declared.Unmarshalled as «data»
 use Rattle.chunk_payload_data.specs.declared.Unmarshalled.the-variants as data-is
@@ -27,14 +28,17 @@ use Rattle.chunk_theorems.proofs.OneAnswer.{data-told-one, name-of-numb
 
 pub data-accepted : (raw : List ℕ) (f : DataFront raw) → first (dataChecks (length raw) (f .fields .header)) ≡ none
     → take (f .fields .header .size) raw ≡ dataChunk (f .fields .header .flags) (f .fields .fields) (take (f .fields .header .size - 16) (drop 16 raw))
-data-accepted raw f e = headed-accepted dataValue DataFits 0 12 f (data-value-length (f .fields .fields)) (passes 0 16 4 (length raw) (f .fields .header) e)
+data-accepted raw f e =
+    let h = f .fields .header in
+    headed-accepted dataValue DataFits 0 12 f (data-value-length (f .fields .fields)) (passes 0 16 4 (length raw) h (none-both (kindChecks 0 16 4 (length raw) h) (dataOnly h) e .0))
 
 -- ── what is a DATA chunk of some fields and user data, whatever follows, is accepted with them ──
 
--- fields that a chunk can have: each fits its place, and the length fits 16 bits
+-- fields and data that a chunk can have: each fits its place, the data has a byte, and the length fits 16 bits
 pub record Sendable (flags : ℕ) (d : Data) (user : List ℕ) : Type 0 where
   pub flag : flags < 2 ^ 8
   pub fits : DataFits d
+  pub some : 0 < length user
   pub few : length user ≤ 65519
 
 module _ (flags : ℕ) (d : Data) (user rest : List ℕ) (s : Sendable flags d user) where
@@ -53,7 +57,9 @@ module _ (flags : ℕ) (d : Data) (user rest : List ℕ) (s : Sendable flags d u
 
   -- nothing is refused
   pub data-passes : first (dataChecks (length bytes) (head .header)) ≡ none
-  data-passes = chunk-passes dataValue 0 flags 12 d user rest (data-value-length d) 4
+  data-passes =
+      first-passed (kindChecks 0 16 4 (length bytes) (head .header)) (dataOnly (head .header)) (chunk-passes dataValue 0 flags 12 d user rest (data-value-length d) 4)
+      ∙ rw (ne-eqb (16 + length user) 16 (λ e. omega (arith, s .some, e)))
 
   -- so what meets the promise of `unmarshal` has its fields
   pub data-read-back : (r : «data».Unmarshalled) → ((f : DataFront bytes) → dataTold r ≡ dataRead (length bytes) (f .fields)) → dataTold r ≡ says none (dataShown flags d)

@@ -11,7 +11,7 @@ use Rattle.chunk.specs.Layout.{Header}
 use Rattle.chunk_selective_ack.specs.Layout.{Sack, Block}
 use Rattle.chunk.specs.Header.{HeaderFront, headerChecks, kindChecks, headerTold, headerRead}
 use Rattle.chunk.specs.Part.{Part}
-use Rattle.chunk_payload_data.specs.Data.{identifierNumber, identifierName, DataValues, dataHeld, dataTold, DataFront, dataRead, userData}
+use Rattle.chunk_payload_data.specs.Data.{identifierNumber, identifierName, DataValues, dataHeld, dataTold, DataFront, dataChecks, dataRead, userData}
 use Rattle.chunk_selective_ack.specs.Sack.{sackHeld, sackTold, SackFront, sackRead, blocksPart, duplicatesPart, BlockFront, blockTold, blockRead, TsnFront, tsnTold, tsnRead}
 use Rattle.chunk_forward_tsn.specs.Layout.{Pair}
 use Rattle.chunk_forward_tsn.specs.ForwardTsn.{Forward, forwardTold, ForwardFront, forwardRead, pairsPart, PairFront, pairTold, pairRead}
@@ -183,6 +183,11 @@ module _ (raw : List ℕ) (by : Bytes raw) where
       → ((f : HeaderFront raw) → headerTold r ≡ headerRead (kindChecks kind least short (length raw) (f .fields)) (f .fields))
       → ((f : HeaderFront raw) → headerTold s ≡ headerRead (kindChecks kind least short (length raw) (f .fields)) (f .fields)) → r ≡ s
   header-as-one kind least short p q = let f = header-some raw by in one-answer headerTold header-back header-inverse (p f) (q f)
+
+  pub data-head-one : {r s : head.Unmarshalled}
+      → ((f : HeaderFront raw) → headerTold r ≡ headerRead (dataChecks (length raw) (f .fields)) (f .fields))
+      → ((f : HeaderFront raw) → headerTold s ≡ headerRead (dataChecks (length raw) (f .fields)) (f .fields)) → r ≡ s
+  data-head-one p q = let f = header-some raw by in one-answer headerTold header-back header-inverse (p f) (q f)
 
   pub data-one : {r s : «data».Unmarshalled}
       → ((f : DataFront raw) → dataTold r ≡ dataRead (length raw) (f .fields)) → ((f : DataFront raw) → dataTold s ≡ dataRead (length raw) (f .fields)) → r ≡ s

@@ -16,7 +16,7 @@ use Rattle.chunk.specs.Marshal.{marshalTold}
 use Rattle.chunk.specs.Part.{Part}
 use Rattle.chunk.specs.declared.chunk_header.Unmarshalled as head
 use Rattle.chunk.specs.declared.Marshalled.{Marshalled}
-use Rattle.chunk_payload_data.specs.Data.{identifierNumber, identifierName, dataFlags, dataTold, DataFront, dataRead, userData, dataWritten}
+use Rattle.chunk_payload_data.specs.Data.{identifierNumber, identifierName, dataFlags, dataTold, DataFront, dataChecks, dataRead, userData, dataWritten}
 use Rattle.chunk_payload_data.specs.declared.ChunkPayloadData.{ChunkPayloadData}
 use Rattle.chunk_payload_data.specs.declared.PayloadProtocolIdentifier.{PayloadProtocolIdentifier}
 use Rattle.chunk_payload_data.specs.declared.Unmarshalled as «data»
@@ -27,7 +27,7 @@ use Rattle.chunk_selective_ack.specs.declared.DuplicateTsnAt.{DuplicateTsnAt}
 use Rattle.chunk_forward_tsn.specs.ForwardTsn.{forwardTold, ForwardFront, forwardRead, pairsPart, PairFront, pairTold, pairRead, forwardWritten}
 use Rattle.chunk_forward_tsn.specs.declared.Unmarshalled as forward
 use Rattle.chunk_forward_tsn.specs.declared.StreamAt.{StreamAt}
-use Rattle.chunk_theorems.proofs.OneAnswer.{header-one, header-as-one, data-one, user-data-one, sack-one, blocks-part-one, duplicates-part-one, block-one, tsn-one, forward-one, pairs-part-one, pair-one, written-one}
+use Rattle.chunk_theorems.proofs.OneAnswer.{header-one, header-as-one, data-head-one, data-one, user-data-one, sack-one, blocks-part-one, duplicates-part-one, block-one, tsn-one, forward-one, pairs-part-one, pair-one, written-one}
 use Rattle.one_answer.proofs.Only.{Only, named-one, both}
 
 -- ── numbers that wrap ──
@@ -89,6 +89,9 @@ module _ (raw : List ℕ) (by : Bytes raw) where
 
   pub header-unmarshal-as-one : (kind least short : ℕ) → Only (λ (r : head.Unmarshalled). (f : HeaderFront raw) → headerTold r ≡ headerRead (kindChecks kind least short (length raw) (f .fields)) (f .fields))
   header-unmarshal-as-one kind least short r s p q = header-as-one raw by kind least short p q
+
+  pub data-header-one : Only (λ (r : head.Unmarshalled). (f : HeaderFront raw) → headerTold r ≡ headerRead (dataChecks (length raw) (f .fields)) (f .fields))
+  data-header-one r s p q = data-head-one raw by p q
 
   pub data-unmarshal-one : Only (λ (r : «data».Unmarshalled). (f : DataFront raw) → dataTold r ≡ dataRead (length raw) (f .fields))
   data-unmarshal-one r s p q = data-one raw by p q

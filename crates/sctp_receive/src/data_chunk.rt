@@ -11,7 +11,7 @@ use chunk_payload_data::ChunkPayloadData;
 use chunk_payload_data::PayloadProtocolIdentifier;
 use chunk_payload_data::Unmarshalled;
 
-// The fields of the DATA chunk that the lent bytes begin with; 1 2 3 4.
+// The fields of the DATA chunk that the lent bytes begin with; 1 2 3 4 15.
 #[no_mangle]
 pub extern "C" fn sctp_receive_data_unmarshal(
     raw: &[u8],
@@ -52,7 +52,7 @@ pub extern "C" fn sctp_receive_data_unmarshal(
     }
 }
 
-// Where the user data of the chunk that the lent bytes begin with stands in them: from byte 16 up to the length; 1 2 3 4.
+// Where the user data of the chunk that the lent bytes begin with stands in them: from byte 16 up to the length; 1 2 3 4 15.
 #[no_mangle]
 pub extern "C" fn sctp_receive_data_user_data(
     raw: &[u8],
@@ -64,7 +64,7 @@ pub extern "C" fn sctp_receive_data_user_data(
     sctp_receive_codecs::user_data(raw, start, size)
 }
 
-// The DATA chunk of these fields and this user data, written to the front of the lent buffer; n is its byte count; 9 and 10.
+// The DATA chunk of these fields and this user data, written to the front of the lent buffer; n is its byte count; 15, 9 and 10.
 #[no_mangle]
 pub extern "C" fn sctp_receive_data_marshal_to(
     out: &mut [u8],

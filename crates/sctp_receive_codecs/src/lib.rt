@@ -27,11 +27,11 @@ pub fn marshalled(answer: Marshalled, n: &mut usize) -> i32
     }
 }
 
-// Where the user data of the chunk that the lent bytes begin with stands in them: from byte 16 up to the length; 1 2 3 4.
+// Where the user data of the chunk that the lent bytes begin with stands in them: from byte 16 up to the length; 1 2 3 4 15.
 pub fn user_data(raw: &[u8], start: &mut usize, size: &mut usize) -> i32
     ensures { λ r. ⌜ ((f : HeaderFront (now (raw .entry))) → told (back r) (span (now (start .exit)) (now (size .exit))) ≡ userSpan (length (now (raw .entry))) (f .fields)) ⌝ }
 {
-    let answer = chunk_header::unmarshal_as(raw, 0, 16, 4);
+    let answer = chunk_payload_data::header(raw);
     match answer {
         chunk_header::Unmarshalled::Header(h) => {
             *start = 16;

@@ -118,11 +118,11 @@ module _ (lent : RefT (List ℕ)) (tsns words pool : List ℕ) where
       -- P3 Identifier 7 reads Unknown, is written 58.
       ∷ identifierName 7 is Unknown
       ∷ identifierNumber (identifierName 7) is 58
-      -- P4 DATA length 15: 4. Length 16: empty data, accepted.
+      -- P4 DATA length 15: 4. Length 16, which has no data: 15 (document 02, M-104).
       ∷ unmarshal-data (p4-bytes 15) gives says (refuse 4) noData
       ∷ user-data lent (p4-bytes 15) gives no-part lent 4
-      ∷ unmarshal-data (p4-bytes 16) gives says none p2-values
-      ∷ user-data lent (p4-bytes 16) gives part-from lent 16 []
+      ∷ unmarshal-data (p4-bytes 16) gives says (refuse 15) noData
+      ∷ user-data lent (p4-bytes 16) gives no-part lent 15
       -- P5 SACK, cumulative 100, a_rwnd 1500, blocks 2-3 and 5-5, duplicate 98:
       -- `03 00 00 1C 00 00 00 64 00 00 05 DC 00 02 00 01 00 02 00 03 00 05 00 05 00 00 00 62`.
       ∷ sackWritten 100 1500 (2 ∷ 5 ∷ []) (3 ∷ 5 ∷ []) (98 ∷ []) (room 28) is written (says none 28) p5-bytes

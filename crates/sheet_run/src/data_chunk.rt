@@ -74,13 +74,12 @@ pub fn p4() {
     print::text(b".\n");
 }
 
-// P2's bytes with this length: the refusal, if fields and user data are refused alike; or what the user data is, and that it is accepted.
+// P2's bytes with this length: the refusal, if fields and user data are refused alike; or that it is accepted.
 fn of_length(size: u8) {
     let mut raw = *b"\x00\x03\x00\x13\x00\x00\x00\x0A\x00\x02\x00\x05\x00\x00\x00\x33";
     raw[3] = size;
     let mut refusal: u8 = 0;
-    let user = chunk_payload_data::user_data(&raw, &mut refusal);
-    let empty = user.len() == 0;
+    chunk_payload_data::user_data(&raw, &mut refusal);
     let answer = chunk_payload_data::unmarshal(&raw);
     match answer {
         Unmarshalled::Refused(k) => {
@@ -88,13 +87,6 @@ fn of_length(size: u8) {
                 show::refused(k);
             }
         }
-        Unmarshalled::Fields(_) => {
-            if empty {
-                print::text(b"empty data, ");
-            }
-            if refusal == chunk::ACCEPTED {
-                print::text(b"accepted");
-            }
-        }
+        Unmarshalled::Fields(_) => print::text(b"accepted"),
     }
 }

@@ -11,9 +11,9 @@ const EXPECTED: &[(&str, &str, &str)] = &[
     ("TsnDistance", "", "below 0,0,above 0"),
     ("SsnDistance", "", "below 0,0,above 0"),
     ("Header", "header,refused 1,refused 2", ""),
-    ("DataUnmarshal", "data,refused 1,refused 2,refused 3,refused 4", ""),
-    ("DataUserData", "part,refused 1,refused 2,refused 3,refused 4", ""),
-    ("DataMarshal", "wrote", "refused 9,refused 10"),
+    ("DataUnmarshal", "data,refused 1,refused 2,refused 3,refused 4", "refused 15"),
+    ("DataUserData", "part,refused 1,refused 2,refused 3,refused 4", "refused 15"),
+    ("DataMarshal", "wrote", "refused 9,refused 10,refused 15"),
     ("SackUnmarshal", "sack,refused 1,refused 2,refused 3,refused 5", ""),
     ("SackBlocks", "part,refused 1,refused 2,refused 3,refused 5", ""),
     ("SackDuplicates", "part,refused 1,refused 2,refused 3,refused 5", ""),
@@ -202,7 +202,7 @@ mod tests {
         for (_, name) in Call::NAMES {
             assert!(EXPECTED.iter().any(|(expected, ..)| expected == name), "{name}");
         }
-        for number in 0..=12 {
+        for number in (0..=12).chain([15]) {
             let refused = format!("refused {number}");
             assert!(expected(Mode::Out).any(|(_, _, answer)| answer == refused), "{refused}");
         }

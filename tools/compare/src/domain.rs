@@ -10,19 +10,19 @@ use calls::{Call, Data, Fields, U};
 const PIECE_MOST: u64 = 1 << 20;
 
 /// Whether a call, made in this state, is inside. What the Rust does not have is not: distances, lookups by index, short buffers, forging.
+/// Nor is DATA without data, which document 02 refuses and the Rust takes.
 pub fn inside(model: &Model, call: &Call) -> bool {
     match call {
         Call::Sna32 { a, b } => a.wrapping_sub(*b) != 1 << 31,
         Call::Sna16 { a, b } => a.wrapping_sub(*b) != 1 << 15,
+        Call::DataUnmarshal { raw } | Call::DataUserData { raw } => padding_is_0(raw) && !without_data(call),
         Call::Header { raw }
-        | Call::DataUnmarshal { raw }
-        | Call::DataUserData { raw }
         | Call::SackUnmarshal { raw }
         | Call::SackBlocks { raw }
         | Call::SackDuplicates { raw }
         | Call::FwdUnmarshal { raw }
-        | Call::FwdStreams { raw } => padding(raw).iter().all(|b| *b == 0),
-        Call::DataMarshal { room, data, .. } => data.size <= 65_519 && *room >= 16 + data.size,
+        | Call::FwdStreams { raw } => padding_is_0(raw),
+        Call::DataMarshal { room, data, .. } => (1..=65_519).contains(&data.size) && *room >= 16 + data.size,
         Call::SackMarshal { room, starts, ends, duplicates, .. } => {
             let entries = starts.len() + duplicates.len();
             starts.len() == ends.len() && entries <= 16_379 && *room as usize >= 16 + 4 * entries
@@ -50,6 +50,19 @@ pub fn padding(raw: &[u8]) -> &[u8] {
     let [_, _, high, low, ..] = raw else { return &[] };
     let length = u16::from_be_bytes([*high, *low]) as usize;
     if length < 4 || length + 3 < raw.len() { &[] } else { raw.get(length..).unwrap_or(&[]) }
+}
+
+fn padding_is_0(raw: &[u8]) -> bool {
+    padding(raw).iter().all(|b| *b == 0)
+}
+
+/// DATA without data that the Rust reads or writes: type 0 and length 16, or nothing to write and room for 16 bytes.
+pub fn without_data(call: &Call) -> bool {
+    match call {
+        Call::DataUnmarshal { raw } | Call::DataUserData { raw } => raw.len() >= 16 && raw[0] == 0 && raw[2..4] == [0, 16] && padding_is_0(raw),
+        Call::DataMarshal { room, data, .. } => data.size == 0 && *room >= 16,
+        _ => false,
+    }
 }
 
 /// Whether numbers of that width lie in one arc shorter than half the round.
@@ -134,5 +147,23 @@ mod tests {
         assert_eq!(padding(&[0, 0, 0, 4, 1]), &[1]);
         assert_eq!(padding(&[0, 0, 0, 4, 1, 2, 3]), &[1, 2, 3]);
         assert!(padding(&[0, 0, 0, 4, 1, 2, 3, 4]).is_empty() && padding(&[0, 0, 0, 9]).is_empty() && padding(&[0, 0, 0, 3, 1]).is_empty());
+    }
+
+    #[test]
+    fn data_without_data_is_outside() {
+        let read = |kind, length, lent, last| {
+            let mut raw = vec![kind, 0, 0, length];
+            raw.resize(lent, last);
+            let call = Call::DataUnmarshal { raw };
+            (without_data(&call), inside(&Model::new(), &call))
+        };
+        assert_eq!([read(0, 16, 16, 0), read(0, 16, 19, 0), read(0, 16, 20, 1)], [(true, false); 3]);
+        assert_eq!([read(0, 15, 16, 0), read(0, 16, 15, 0), read(3, 16, 16, 0), read(0, 17, 17, 0)], [(false, true); 4]);
+        assert_eq!(read(0, 16, 17, 1), (false, false));
+        let write = |size, room| {
+            let call = Call::DataMarshal { room, fill: 0, fields: Fields::default(), data: Data { size, seed: 0 } };
+            (without_data(&call), inside(&Model::new(), &call))
+        };
+        assert_eq!([write(0, 16), write(0, 15), write(1, 17), write(1, 16)], [(true, false), (false, false), (false, true), (false, false)]);
     }
 }

@@ -1,15 +1,24 @@
 //! Differences between the rules and the Rust that docs/DIFFERENCES.md explains, where one call shows them.
-use crate::domain::padding;
+use crate::domain::{padding, without_data};
 use crate::model::forward::PAIRS;
 use calls::Call;
 
 /// Number and heading of each.
-pub const ALL: &[(u8, &str)] = &[(3, "a length is cut to 16 bits"), (8, "the distance half way"), (9, "bytes after the length"), (15, "pieces of the largest size")];
+pub const ALL: &[(u8, &str)] = &[
+    (3, "a length is cut to 16 bits"),
+    (6, "DATA without data"),
+    (8, "the distance half way"),
+    (9, "bytes after the length"),
+    (15, "pieces of the largest size"),
+];
 
 /// The number of the difference that explains why the Rust answers otherwise, if one does.
 pub fn by(call: &Call, ours: &[u8], oracle: &[u8]) -> Option<u8> {
     let half_way = ours == b"no no no no" && oracle == b"no no yes yes";
     let (number, explained) = match call {
+        Call::DataUnmarshal { .. } if without_data(call) => (6, ours == b"refused 15" && oracle.starts_with(b"data ")),
+        Call::DataUserData { .. } if without_data(call) => (6, ours == b"refused 15" && oracle == b"part -"),
+        Call::DataMarshal { .. } if without_data(call) => (6, ours.starts_with(b"refused 15 ") && oracle.starts_with(b"wrote 16 ")),
         Call::DataMarshal { data, .. } => (3, data.size > 65_519 && ours.starts_with(b"refused 9 ")),
         Call::SackMarshal { starts, duplicates, .. } => (3, starts.len() + duplicates.len() > 16_379 && ours.starts_with(b"refused 9 ")),
         Call::FwdMarshal { streams, .. } => (3, streams.len() > PAIRS && ours.starts_with(b"refused 9 ")),
@@ -32,6 +41,7 @@ pub fn by(call: &Call, ours: &[u8], oracle: &[u8]) -> Option<u8> {
 #[cfg(test)]
 mod tests {
     use super::*;
+    use calls::{Data, Fields};
 
     #[test]
     fn only_what_is_said_is_explained() {
@@ -45,5 +55,19 @@ mod tests {
         let forward = |pairs| Call::FwdMarshal { room: 0, fill: 0, point: 0, streams: vec![0; pairs], ssns: vec![0; pairs] };
         assert_eq!(by(&forward(16_382), b"refused 9 -", b"no such answer"), Some(3));
         assert_eq!(by(&forward(16_381), b"refused 9 -", b"no such answer"), None);
+    }
+
+    #[test]
+    fn data_without_data_where_ours_answers_15() {
+        let data = |length: u8, after: &[u8]| [&[0, 3, 0, length, 0, 0, 0, 10, 0, 2, 0, 5, 0, 0, 0, 51][..], after].concat();
+        let fields = |raw: Vec<u8>, ours: &[u8]| by(&Call::DataUnmarshal { raw }, ours, b"data BE 10 2 5 51");
+        assert_eq!([fields(data(16, &[]), b"refused 15"), fields(data(16, &[0]), b"refused 15")], [Some(6); 2]);
+        assert_eq!([fields(data(16, &[]), b"refused 4"), fields(data(17, &[1]), b"refused 15"), fields(data(16, &[1]), b"refused 15")], [None; 3]);
+        let part = |raw: Vec<u8>, oracle: &[u8]| by(&Call::DataUserData { raw }, b"refused 15", oracle);
+        assert_eq!([part(data(16, &[]), b"part -"), part(data(16, &[]), b"part 00"), part(data(17, &[0]), b"part 00")], [Some(6), None, None]);
+        assert_eq!(part(data(16, &[1]), b"error ErrChunkHeaderPaddingNonZero"), Some(9));
+        let marshal = |size| Call::DataMarshal { room: 17, fill: 0, fields: Fields::default(), data: Data { size, seed: 0 } };
+        let write = |size, ours: &[u8]| by(&marshal(size), ours, b"wrote 16 00");
+        assert_eq!([write(0, b"refused 15 00"), write(0, b"refused 9 00"), write(1, b"refused 15 00")], [Some(6), None, None]);
     }
 }

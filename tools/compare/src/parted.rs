@@ -29,6 +29,15 @@ fn duplicates() -> Vec<Call> {
     [ordered, unordered].concat()
 }
 
+/// 6: DATA without data, read and written; beside it one byte less and one more.
+fn without_data() -> Vec<Call> {
+    let data = |length: u8| [0, 3, 0, length, 0, 0, 0, 10, 0, 2, 0, 5, 0, 0, 0, 51, 97][..length as usize].to_vec();
+    let read = [15, 16, 17].into_iter().flat_map(|length| [Call::DataUnmarshal { raw: data(length) }, Call::DataUserData { raw: data(length) }]);
+    let into = [(16, 0), (15, 0), (17, 1), (16, 1)].into_iter();
+    let written = into.map(|(room, size)| Call::DataMarshal { room, fill: 0xEE, fields: fields(B | E, 10, 5), data: Data { size, seed: b'a' } });
+    read.chain(written).collect()
+}
+
 /// 8 and 13: half way round.
 fn half_way() -> Vec<Call> {
     let numbers = vec![Call::Sna32 { a: 0, b: 1 << 31 }, Call::Sna32 { a: 1 << 31, b: 0 }, Call::Sna16 { a: 0, b: 1 << 15 }, Call::Sna16 { a: 1 << 15, b: 0 }];
@@ -40,7 +49,7 @@ fn half_way() -> Vec<Call> {
 
 /// 9 and 15: bytes after the length, and pieces of the largest size.
 fn bytes_and_pieces() -> Vec<Call> {
-    let data = [0, 0, 0, 16, 0, 0, 0, 1, 0, 0, 0, 0, 0, 0, 0, 51, 1].to_vec();
+    let data = [0, 0, 0, 17, 0, 0, 0, 1, 0, 0, 0, 0, 0, 0, 0, 51, 97, 1].to_vec();
     let chunks = vec![Call::Header { raw: vec![0, 0, 0, 4, 1] }, Call::DataUnmarshal { raw: data.clone() }, Call::DataUserData { raw: data }];
     let forward = vec![Call::FwdUnmarshal { raw: [192, 0, 0, 8, 0, 0, 0, 1, 1].to_vec() }, Call::FwdStreams { raw: [192, 0, 0, 8, 0, 0, 0, 1, 0, 0, 1].to_vec() }];
     let pieces = fresh([push(B | E, 1, 0, 1), read(1), Call::MNext { most: u64::MAX }, Call::MNext { most: u64::MAX }]);
@@ -60,5 +69,5 @@ fn all_the_way_round() -> Vec<Call> {
 }
 
 pub fn calls() -> Vec<Call> {
-    [duplicates(), half_way(), bytes_and_pieces(), all_the_way_round()].concat()
+    [duplicates(), without_data(), half_way(), bytes_and_pieces(), all_the_way_round()].concat()
 }

@@ -17,7 +17,7 @@ fn p1_order_at_the_wrap_but_no_distance() {
 #[test]
 fn p2_p3_data() {
     let raw = hex("00 03 00 13 00 00 00 0a 00 02 00 05 00 00 00 33 61 62 63");
-    let seven = hex("00 03 00 10 00 00 00 0a 00 02 00 05 00 00 00 07");
+    let seven = hex("00 03 00 11 00 00 00 0a 00 02 00 05 00 00 00 07 61");
     let abc = |room, identifier| Call::DataMarshal {
         room,
         fill: 0xee,
@@ -44,8 +44,8 @@ fn p4_and_the_refusals_of_the_readers() {
     };
     answered(&[
         (Call::DataUnmarshal { raw: chunk(0, 15, 15) }, "refused 4"),
-        (Call::DataUnmarshal { raw: chunk(0, 16, 16) }, "data - 0 0 0 58"),
-        (Call::DataUserData { raw: chunk(0, 16, 16) }, "part -"),
+        (Call::DataUserData { raw: chunk(0, 15, 15) }, "refused 4"),
+        (Call::DataUnmarshal { raw: chunk(0, 17, 17) }, "data - 0 0 0 58"),
         (Call::Header { raw: vec![0, 0, 0] }, "refused 1"),
         (Call::Header { raw: chunk(0, 3, 4) }, "refused 2"),
         (Call::Header { raw: chunk(0, 5, 4) }, "refused 2"),

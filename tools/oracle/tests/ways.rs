@@ -1,6 +1,6 @@
-//! The ways of the Rust that document 01 turns away from, each as the fewest calls that show it, with the Rust's own answers.
+//! The ways of the Rust that documents 01 and 02 turn away from, each as the fewest calls that show it, with the Rust's own answers.
 mod common;
-use calls::{B, Call, Data, E, U};
+use calls::{B, Call, Data, E, Fields, U};
 use common::*;
 
 #[test]
@@ -74,8 +74,21 @@ fn lengths_are_cut_to_16_bits() {
 }
 
 #[test]
+fn data_without_data_is_read_and_written() {
+    let raw = hex("00 03 00 10 00 00 00 0a 00 02 00 05 00 00 00 33");
+    let fields = Fields { flags: B | E, tsn: 10, stream: 2, ssn: 5, identifier: 51 };
+    let written = |room| Call::DataMarshal { room, fill: 0xee, fields, data: Data::default() };
+    answered(&[
+        (Call::DataUnmarshal { raw: raw.clone() }, "data BE 10 2 5 51"),
+        (Call::DataUserData { raw }, "part -"),
+        (written(16), "wrote 16 000300100000000a0002000500000033"),
+        (written(17), "wrote 16 000300100000000a0002000500000033ee"),
+    ]);
+}
+
+#[test]
 fn up_to_three_bytes_after_the_length_must_be_0() {
-    let data = |after: &[u8]| [&hex("00 00 00 10 00 00 00 01 00 00 00 00 00 00 00 33")[..], after].concat();
+    let data = |after: &[u8]| [&hex("00 00 00 11 00 00 00 01 00 00 00 00 00 00 00 33 61")[..], after].concat();
     answered(&[
         (Call::Header { raw: hex("00 00 00 04 01") }, "error ErrChunkHeaderPaddingNonZero"),
         (Call::DataUnmarshal { raw: data(&[0, 0, 1]) }, "error ErrChunkHeaderPaddingNonZero"),

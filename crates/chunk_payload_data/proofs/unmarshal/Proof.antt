@@ -17,7 +17,7 @@ refused c f =
     let r = c .before .before .before in
     let lent = length (r .before .before .args .raw .now) in
     let h = f .fields .header in
-    rw (told-refused (dataChecks lent h) h (r .unmarshal-as .result) (r .unmarshal-as .ensures .0 (header-front dataValue DataFits 12 f)) (c .before .header .given .1))
+    rw (told-refused (dataChecks lent h) h (r .header .result) (r .header .ensures .0 (header-front dataValue DataFits 12 f)) (c .before .any .given .1))
 
 taken : tie.Need-returns-2
 unfolding dataRead
@@ -26,13 +26,13 @@ taken c f =
     let r = m .before .before in
     let lent = length (r .before .before .args .raw .now) in
     let h = f .fields .header in
-    let t = told-taken (dataChecks lent h) h (r .unmarshal-as .result) (r .unmarshal-as .ensures .0 (header-front dataValue DataFits 12 f)) (m .header2 .given .1) in
+    let t = told-taken (dataChecks lent h) h (r .header .result) (r .header .ensures .0 (header-front dataValue DataFits 12 f)) (m .any2 .given .1) in
     rw (t .0, c .fields .ensures f, ap (λ (x : Header). x .flags) (t .1))
 
 long : tie.Need-fields-requires
 long c κs =
     let r = c .before .before .before in
-    let room = rw (c .before .header2 .given .1) at (r .unmarshal-as .ensures .1) in
+    let room = rw (c .before .any2 .given .1) at (r .header .ensures .1) in
     omega arith
 
 pub unmarshal-spec : {M : Type 1} → statement M

@@ -16,7 +16,7 @@ refused c f =
     let m = c .before .before in
     let r = m .before .before in
     let lent = length (r .before .before .args .raw .now) in
-    rw (told-refused (dataChecks lent (f .fields)) (f .fields) (r .unmarshal-as .result) (r .unmarshal-as .ensures .0 f) (m .header .given .1))
+    rw (told-refused (dataChecks lent (f .fields)) (f .fields) (r .header .result) (r .header .ensures .0 f) (m .any .given .1))
 
 taken : tie.Need-returns-2
 unfolding userData
@@ -24,12 +24,12 @@ taken c f =
     let m = c .before .before .before in
     let r = m .before .before in
     let lent = length (r .before .before .args .raw .now) in
-    let t = told-taken (dataChecks lent (f .fields)) (f .fields) (r .unmarshal-as .result) (r .unmarshal-as .ensures .0 f) (m .header2 .given .1) in
+    let t = told-taken (dataChecks lent (f .fields)) (f .fields) (r .header .result) (r .header .ensures .0 f) (m .any2 .given .1) in
     rw (t .0, ← (ap (λ (x : Header). x .size) (t .1)))
 
 -- the length is at least 16, and at most what is lent
-room : (c : tie.After-struct-known) → (let m = c .before .before in let s = m .header2 .given .0 .0 .length in (16 ≤ s) × (s ≤ length (m .before .before .before .before .args .raw .now)))
-room c = let m = c .before .before in rw (m .header2 .given .1) at (m .before .before .unmarshal-as .ensures .1)
+room : (c : tie.After-struct-known) → (let m = c .before .before in let s = m .any2 .given .0 .0 .length in (16 ≤ s) × (s ≤ length (m .before .before .before .before .args .raw .now)))
+room c = let m = c .before .before in rw (m .any2 .given .1) at (m .before .before .header .ensures .1)
 
 pub user-data-spec : {M : Type 1} → statement M
 user-data-spec =

@@ -13,19 +13,19 @@ use Rattle.sctp_receive_codecs.proofs.user_data.Statement.{statement}
 use Rattle.sctp_receive_codecs.proofs.user_data.Tie as tie
 
 long : tie.Need-sub-size
-long c = let room = rw (c .before .before .answer .given .1) at (c .before .before .before .before .unmarshal-as .ensures .1) in omega (arith, room .0)
+long c = let room = rw (c .before .before .answer .given .1) at (c .before .before .before .before .header .ensures .1) in omega (arith, room .0)
 
 taken : tie.Need-returns
 unfolding userSpan
 taken c f =
-    let r = c .before .before .before .before .unmarshal-as in
+    let r = c .before .before .before .before .header in
     let t = told-taken (dataChecks (length (c .before .before .before .before .before .before .args .raw .now)) (f .fields)) (f .fields) (r .result) (r .ensures .0 f) (c .before .before .answer .given .1) in
     rw (t .0, ← (ap (λ (x : Header). x .size) (t .1)))
 
 refused : tie.Need-returns-2
 unfolding userSpan
 refused c f =
-    let r = c .before .before .before .unmarshal-as in
+    let r = c .before .before .before .header in
     rw (told-refused (dataChecks (length (c .before .before .before .before .before .args .raw .now)) (f .fields)) (f .fields) (r .result) (r .ensures .0 f) (c .before .answer2 .given .1), back-refuse (c .before .answer2 .given .0 .0) (omega arith))
 
 pub user-data-spec : {M : Type 1} → statement M

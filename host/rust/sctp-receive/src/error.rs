@@ -32,11 +32,13 @@ pub enum Error {
     PastTheList = 11,
     /// 12: FORWARD TSN length below 8, or not 8 plus a multiple of 4 (`ErrChunkTooShort`).
     ChunkTooShort = 12,
+    /// 15: DATA without data, read or written (RFC 4960 section 3.3.1 wants a byte at least).
+    NoUserData = 15,
 }
 
 impl Error {
-    /// Every refusal, at the place of its number.
-    pub const ALL: [Error; 13] = [
+    /// Every refusal, in the order of their numbers.
+    pub const ALL: [Error; 14] = [
         Error::Unsound,
         Error::NoHeader,
         Error::BadLength,
@@ -50,6 +52,7 @@ impl Error {
         Error::NoRoom,
         Error::PastTheList,
         Error::ChunkTooShort,
+        Error::NoUserData,
     ];
 
     /// What a result of the library says: -1 is `Ok`. It is proved to have no other numbers than the documents'.
@@ -58,8 +61,9 @@ impl Error {
         if result == -1 {
             return Ok(());
         }
-        debug_assert!((0..13).contains(&result), "the documents have no refusal {result}");
-        Err(usize::try_from(result).ok().and_then(|k| Self::ALL.get(k)).copied().unwrap_or(Error::Unsound))
+        let refusal = Self::ALL.into_iter().find(|e| *e as i32 == result);
+        debug_assert!(refusal.is_some(), "the documents have no refusal {result}");
+        Err(refusal.unwrap_or(Error::Unsound))
     }
 }
 
@@ -79,6 +83,7 @@ impl fmt::Display for Error {
             Error::NoRoom => "the buffer or list is too short",
             Error::PastTheList => "past the end of the list",
             Error::ChunkTooShort => "FORWARD TSN shorter than 8 bytes, or with a part of a pair",
+            Error::NoUserData => "DATA without data",
         })
     }
 }

@@ -225,8 +225,9 @@ fn chunks_written_and_read() {
         let (chunk, user) = (r.chunk(base, 1 << 20), vec![r.next() as u8; r.below(200) as usize]);
         let mut out = vec![6; r.below(240) as usize];
         let written = chunk.marshal_to(&mut out, &user);
-        if out.len() < 16 + user.len() {
-            assert!(written == Err(Error::NoRoom) && out.iter().all(|b| *b == 6));
+        if user.is_empty() || out.len() < 16 + user.len() {
+            let refusal = if user.is_empty() { Error::NoUserData } else { Error::NoRoom };
+            assert!(written == Err(refusal) && out.iter().all(|b| *b == 6));
             continue;
         }
         let n = written.unwrap();
@@ -271,6 +272,7 @@ fn any_bytes() {
             _ if at(2) < 4 || at(2) > raw.len() => Err(Error::BadLength),
             _ if raw[0] != typ => Err(Error::ChunkTypeNotAskedFor),
             _ if typ == 0 && at(2) < 16 => Err(Error::ChunkPayloadSmall),
+            _ if typ == 0 && at(2) == 16 => Err(Error::NoUserData),
             _ if typ == 3 && (at(2) < 16 || at(2) < 16 + 4 * at(12) + 4 * at(14)) => Err(Error::SackTooSmall),
             _ if typ == 192 && (at(2) < 8 || at(2) % 4 != 0) => Err(Error::ChunkTooShort),
             _ => Ok(at(2)),

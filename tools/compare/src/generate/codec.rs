@@ -52,11 +52,12 @@ pub fn fields(rng: &mut Rng) -> Fields {
     }
 }
 
-/// Mostly short; now and then long, seldom as long as can be.
+/// Mostly short; now and then none or one, or long, seldom as long as can be.
 fn size(rng: &mut Rng) -> u64 {
     match rng.below(2_000) {
         0 => rng.within(65_500, 65_519),
         1..40 => rng.within(21, 300),
+        40..240 => rng.below(2),
         _ => rng.below(21),
     }
 }
@@ -129,7 +130,7 @@ fn damage(rng: &mut Rng, raw: &mut Vec<u8>) {
     }
 }
 
-/// One to three reading calls on the same bytes. In mode `in` the padding is 0, but for a few that difference 9 explains.
+/// One to three reading calls on the same bytes. In mode `in` the padding is 0, but for a few that difference 9 explains; DATA without data is difference 6.
 fn read(m: &mut Maker) {
     let mut raw = chunk(m);
     let padding = domain::padding(&raw).len();
@@ -172,7 +173,7 @@ fn room(m: &mut Maker, bytes: u64) -> u32 {
 }
 
 fn write_data(m: &mut Maker) {
-    // Too long for a length of 16 bits: difference 3.
+    // Too long for a length of 16 bits: difference 3. No data: difference 6.
     let too_long = m.rng.one_in(if m.mode == Mode::Out { 60 } else { 3_000 });
     let n = if too_long { m.rng.within(65_520, 65_600) } else { size(&mut m.rng) };
     let room = if too_long { m.rng.pick(&[0, 0, 0, 30, BYTES_MOST as u32]) } else { room(m, 16 + n) };

@@ -28,13 +28,14 @@ const LONG: u64 = READERS * 41 + 21 * 3 + 5 * 3 + 5;
 pub const COUNT: u64 = UP_TO_TWO + THREE + FOUR + LENGTHS + SACKS + SSNS + WRITTEN + LONG;
 
 /// The k-th short input, in an order that mixes them; the list starts again behind its end. In mode `in` what is outside the domain is left out, but for
-/// numbers half way apart, which difference 8 explains, and lists that are too long, which 3 does.
+/// numbers half way apart, which difference 8 explains, lists that are too long, which 3 does, and DATA without data, which 6 does.
 pub fn item(m: &mut Maker, k: u64) {
     let call = numbered((k % COUNT).wrapping_mul(1_000_003) % COUNT, m.mode);
     match call {
         Call::Sna16 { .. } => m.put(call),
         Call::FwdMarshal { ref streams, .. } if streams.len() > PAIRS => m.put(call),
         Call::SackMarshal { ref starts, ref duplicates, .. } if starts.len() + duplicates.len() > 16_379 => m.put(call),
+        _ if domain::without_data(&call) => m.put(call),
         _ => _ = m.call(call),
     }
 }

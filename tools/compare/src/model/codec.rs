@@ -1,4 +1,4 @@
-//! Header, DATA and SACK: document 01, 'Chunk layouts'. A refusal is `Err` with its number.
+//! Header, DATA and SACK: document 01, 'Chunk layouts', and document 02's M-104. A refusal is `Err` with its number.
 use super::fault::{Fault, Wrong};
 use calls::{Fields, line::named};
 
@@ -42,11 +42,14 @@ pub fn header_of(kind: u8, raw: &[u8], wrong: Wrong) -> Result<Header, u8> {
     if header.kind == kind { Ok(header) } else { Err(3) }
 }
 
-/// The fields of a DATA chunk and its user data, from byte 16 up to the length. 4: length below 16.
+/// The fields of a DATA chunk and its user data, from byte 16 up to the length. 4: length below 16; 15: length 16, so no data.
 pub fn data(raw: &[u8], wrong: Wrong) -> Result<(Fields, &[u8]), u8> {
     let header = header_of(0, raw, wrong)?;
     if header.length < 16 {
         return Err(4);
+    }
+    if header.length == 16 && !wrong.is(Fault::EmptyRead) {
+        return Err(if wrong.is(Fault::EmptyShort) { 4 } else { 15 });
     }
     let fields = Fields {
         flags: header.flags & 15,
@@ -127,8 +130,12 @@ pub fn write(out: &mut [u8], chunk: &[u8]) -> Result<usize, u8> {
     Ok(chunk.len())
 }
 
-/// 9: above 65,519 data bytes.
+/// 15: no data; 9: above 65,519 data bytes.
 pub fn write_data(out: &mut [u8], fields: &Fields, data: &[u8], wrong: Wrong) -> Result<usize, u8> {
+    let short = wrong.is(Fault::RoomBeforeEmpty) && out.len() < 16;
+    if data.is_empty() && !wrong.is(Fault::EmptyWritten) {
+        return Err(if short { 10 } else { 15 });
+    }
     if data.len() > 65_519 && !wrong.is(Fault::LengthsCut) {
         return Err(9);
     }

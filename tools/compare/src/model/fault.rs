@@ -48,6 +48,10 @@ faults! {
     EveryPairTaken "pairs that name another stream are taken"
     PairsReversed "pairs are taken in reverse order"
     PointAtCumulative "a new point at the cumulative TSN is applied"
+    EmptyRead "DATA without data is read, as by the Rust"
+    EmptyWritten "DATA without data is written, as by the Rust"
+    EmptyShort "a DATA length of 16 is told as one below 16"
+    RoomBeforeEmpty "the room is tested before DATA without data"
 }
 
 /// Which mistake is made, if any.

@@ -57,16 +57,31 @@ fn p2_data() {
 
 #[test]
 fn p3_unknown_identifier() {
-    let raw = hex("00 00 00 10 00 00 00 01 00 00 00 00 00 00 00 07");
+    let raw = hex("00 00 00 11 00 00 00 01 00 00 00 00 00 00 00 07 61");
     assert_eq!(alone(Call::DataUnmarshal { raw }), "data - 1 0 0 58");
-    let written = alone(Call::DataMarshal { room: 16, fill: 0, fields: Fields { identifier: 7, ..Fields::default() }, data: Data::default() });
-    assert!(written.ends_with("0000003a"), "{written}");
+    let written = alone(Call::DataMarshal { room: 17, fill: 0, fields: Fields { identifier: 7, ..Fields::default() }, data: Data { size: 1, seed: b'a' } });
+    assert!(written.ends_with("0000003a61"), "{written}");
 }
 
 #[test]
 fn p4_short_data() {
     assert_eq!(alone(Call::DataUnmarshal { raw: hex("00 00 00 0F 00 00 00 01 00 00 00 00 00 00 00") }), "refused 4");
-    assert_eq!(alone(Call::DataUserData { raw: hex("00 00 00 10 00 00 00 01 00 00 00 00 00 00 00 33") }), "part -");
+    assert_eq!(alone(Call::DataUnmarshal { raw: hex("00 00 00 10 00 00 00 01 00 00 00 00 00 00 00 33") }), "refused 15");
+}
+
+#[test]
+fn data_without_data_is_refused() {
+    let read = |kind, length: u8, lent| {
+        let mut raw = vec![kind, 0, 0, length];
+        raw.resize(lent, 0);
+        [alone(Call::DataUnmarshal { raw: raw.clone() }), alone(Call::DataUserData { raw })]
+    };
+    assert_eq!([read(0, 16, 16), read(0, 16, 17)], [["refused 15", "refused 15"]; 2]);
+    assert_eq!([read(0, 16, 15), read(3, 16, 16), read(0, 15, 16)], [["refused 2"; 2], ["refused 3"; 2], ["refused 4"; 2]]);
+    assert_eq!(read(0, 17, 17), ["data - 0 0 0 58", "part 00"]);
+    let written = |room, size| alone(Call::DataMarshal { room, fill: 0xEE, fields: Fields::default(), data: Data { size, seed: 7 } });
+    assert_eq!([written(0, 0), written(3, 0), written(17, 0)], ["refused 15 -".into(), "refused 15 eeeeee".into(), format!("refused 15 {}", "ee".repeat(17))]);
+    assert_eq!([written(17, 1), written(0, 1)], ["wrote 17 0000001100000000000000000000003a07", "refused 10 -"]);
 }
 
 const P5: &str = "03 00 00 1C 00 00 00 64 00 00 05 DC 00 02 00 01 00 02 00 03 00 05 00 05 00 00 00 62";
