@@ -3,9 +3,9 @@
 use mathlib.Core.Path.{_≡_, refl, sym, ap, _∙_}
 use mathlib.Core.Bool.{Bool, true, false, _||_, true≢false}
 use mathlib.Core.List.{List, _++_, append-assoc}
-use Prim.Native.Nat.{ℕ, _+_, _-_, _<_, _≤_}
+use Prim.Native.Nat.{ℕ, _+_, _-_, _≤_}
 use native.Mathlib.Omega.{arith}
-use borrow.Author.Tests.{eq-eqb, ne-eqb, lt-ltb, le-ltb, ltb-false, eqb-true, not-false}
+use borrow.Author.Tests.{eq-eqb, le-ltb, ltb-false, eqb-true, not-false}
 use lib.ListN.{length, take, drop, length-append, length-drop}
 use lib.Seq.{length-take-le, take-add, drop-at}
 use denote.Ref.{RefT}
@@ -16,7 +16,7 @@ use Rattle.wire.specs.Front.{Front}
 use Rattle.wire.proofs.Reading.{Whole, whole-front, shorter, begins-with, refused, accepted, first-refused, first-passed, none-holds}
 use Rattle.wire.proofs.Writing.{behind}
 use Rattle.chunk.specs.Layout.{Header, header, headerBytes, chunk}
-use Rattle.chunk.specs.Header.{HeaderFront, headerChecks, kindOnly, kindChecks, headerTold, headerRead, Headed, HeadedFits, headedBytes}
+use Rattle.chunk.specs.Header.{HeaderFront, kindChecks, headerTold, headerRead, Headed, HeadedFits, headedBytes}
 use Rattle.chunk.specs.Part.{Part, partOf}
 use Rattle.chunk.specs.declared.chunk_header.ChunkHeader.{ChunkHeader}
 use Rattle.chunk.specs.declared.chunk_header.Unmarshalled.{Unmarshalled}
@@ -59,25 +59,28 @@ module _ (cs : List Check) (h : Header) (r : Unmarshalled) (t : headerTold r ≡
   unfolding headerRead
   told-taken e = accepted nothing h (first cs) (rw e at t)
 
--- ── the checks of one type, behind those of every header ──
+-- ── checks behind a header's own ──
 
-module _ (kind least short lent : ℕ) (h : Header) where
-  pub kind-refused : {k : ℕ} → first (headerChecks lent h) ≡ refuse k → says (refuse k) nothing ≡ headerRead (kindChecks kind least short lent h) h
+-- A header was read by the checks `cs`, and `more` are asked of it next: what `cs` refuse is refused; what they let through is what `more` say of the header that was read.
+module _ (cs : List Check) (more : Header → List Check) (h : Header) (r : Unmarshalled) (t : headerTold r ≡ headerRead cs h) where
+  pub more-refused : {k : ℕ} → r ≡ answers.Refused k → says (refuse k) nothing ≡ headerRead (cs ++ more h) h
   unfolding headerRead
-  kind-refused e = rw (first-refused (headerChecks lent h) (kindOnly kind least short h) e)
+  more-refused e = rw (first-refused cs (more h) (told-refused cs h r t e))
 
-  module _ (p : first (headerChecks lent h) ≡ none) where
-    pub kind-other : (h .kind ≡ kind → ⊥) → says (refuse 3) nothing ≡ headerRead (kindChecks kind least short lent h) h
-    unfolding headerRead
-    kind-other n = rw (first-passed (headerChecks lent h) (kindOnly kind least short h) p, ne-eqb _ _ n)
+  module _ {x : ChunkHeader} (e : r ≡ answers.Header x) where
+    abbrev was-read : Header
+    was-read = header (x .typ) (x .flags) (x .length)
 
-    pub kind-short : h .kind ≡ kind → h .size < least → says (refuse short) nothing ≡ headerRead (kindChecks kind least short lent h) h
-    unfolding headerRead
-    kind-short e l = rw (first-passed (headerChecks lent h) (kindOnly kind least short h) p, eq-eqb _ _ e, lt-ltb _ _ l)
+    decided : first (cs ++ more h) ≡ first (more was-read)
+    decided = let u = told-taken cs h r t e in first-passed cs (more h) (u .0) ∙ ap (λ (y : Header). first (more y)) (sym (u .1))
 
-    pub kind-taken : h .kind ≡ kind → least ≤ h .size → says none h ≡ headerRead (kindChecks kind least short lent h) h
+    pub more-failed : {k : ℕ} → first (more was-read) ≡ refuse k → says (refuse k) nothing ≡ headerRead (cs ++ more h) h
     unfolding headerRead
-    kind-taken e l = rw (first-passed (headerChecks lent h) (kindOnly kind least short h) p, eq-eqb _ _ e, le-ltb _ _ l)
+    more-failed f = rw (decided, f)
+
+    pub more-passed : first (more was-read) ≡ none → says none was-read ≡ headerRead (cs ++ more h) h
+    unfolding headerRead
+    more-passed f = rw (decided, f) (ap (says none) (told-taken cs h r t e .1))
 
 -- ── a header that passes ──
 

@@ -1,25 +1,18 @@
 -- `chunk::chunk_header::unmarshal_as` meets its contract: the checks of the type stand behind those of every header.
 -- Assumes nothing.
-use mathlib.Core.Path.{sym, ap, _∙_}
 use borrow.Author.Needs.{needs}
+use borrow.Author.Tests.{eq-eqb, ne-eqb, lt-ltb, le-ltb}
 use lib.ListN.{length}
-use Rattle.wire.specs.Refusal.{none, says}
-use Rattle.chunk.specs.Layout.{Header}
-use Rattle.chunk.specs.Header.{headerChecks}
-use Rattle.chunk.proofs.Headers.{told-refused, told-taken, kind-refused, kind-other, kind-short, kind-taken}
+use Rattle.chunk.specs.Header.{headerChecks, kindOnly}
+use Rattle.chunk.proofs.Headers.{more-refused, more-failed, more-passed}
 use Rattle.chunk.proofs.chunk_header.unmarshal_as.Statement.{statement}
 use Rattle.chunk.proofs.chunk_header.unmarshal_as.Tie as tie
 
 refused : tie.Need-returns-3
 refused c =
     let r = c .before .before .before in
-    let a = r .before .before .args in (
-      λ f.
-          let lent = length (a .raw .now) in
-          kind-refused (a .kind) (a .least) (a .short) lent (f .fields)
-          (told-refused (headerChecks lent (f .fields)) (f .fields) (r .read .result) (r .read .ensures .0 f) (c .before .any .given .1)),
-      tt,
-    )
+    let a = r .before .before .args in
+    (λ f. more-refused (headerChecks (length (a .raw .now)) (f .fields)) (kindOnly (a .kind) (a .least) (a .short)) (f .fields) (r .read .result) (r .read .ensures .0 f) (c .before .any .given .1), tt)
 
 other : tie.Need-returns
 other c =
@@ -27,9 +20,8 @@ other c =
     let r = m .before .before in
     let a = r .before .before .args in (
       λ f.
-          let lent = length (a .raw .now) in
-          let t = told-taken (headerChecks lent (f .fields)) (f .fields) (r .read .result) (r .read .ensures .0 f) (m .any2 .given .1) in
-          kind-other (a .kind) (a .least) (a .short) lent (f .fields) (t .0) (λ e. c .if1 .taken (ap (λ (h : Header). h .kind) (t .1) ∙ e)),
+          more-failed (headerChecks (length (a .raw .now)) (f .fields)) (kindOnly (a .kind) (a .least) (a .short)) (f .fields) (r .read .result) (r .read .ensures .0 f) (m .any2 .given .1)
+          (rw (ne-eqb _ (a .kind) (c .if1 .taken))),
       tt,
     )
 
@@ -40,10 +32,8 @@ short c =
     let r = m .before .before in
     let a = r .before .before .args in (
       λ f.
-          let lent = length (a .raw .now) in
-          let t = told-taken (headerChecks lent (f .fields)) (f .fields) (r .read .result) (r .read .ensures .0 f) (m .any2 .given .1) in
-          kind-short (a .kind) (a .least) (a .short) lent (f .fields) (t .0) (sym (ap (λ (h : Header). h .kind) (t .1)) ∙ e .if1 .left)
-          (rw (ap (λ (h : Header). h .size) (t .1)) at (c .if2 .taken)),
+          more-failed (headerChecks (length (a .raw .now)) (f .fields)) (kindOnly (a .kind) (a .least) (a .short)) (f .fields) (r .read .result) (r .read .ensures .0 f) (m .any2 .given .1)
+          (rw (eq-eqb _ (a .kind) (e .if1 .left), lt-ltb _ (a .least) (c .if2 .taken))),
       tt,
     )
 
@@ -55,11 +45,8 @@ taken c =
     let a = r .before .before .args in
     let room = rw (m .any2 .given .1) at (r .read .ensures .1) in (
       λ f.
-          let lent = length (a .raw .now) in
-          let t = told-taken (headerChecks lent (f .fields)) (f .fields) (r .read .result) (r .read .ensures .0 f) (m .any2 .given .1) in
-          ap (says none) (t .1)
-          ∙ kind-taken (a .kind) (a .least) (a .short) lent (f .fields) (t .0) (sym (ap (λ (h : Header). h .kind) (t .1)) ∙ e .if1 .left)
-          (rw (ap (λ (h : Header). h .size) (t .1)) at (c .if2 .left)),
+          more-passed (headerChecks (length (a .raw .now)) (f .fields)) (kindOnly (a .kind) (a .least) (a .short)) (f .fields) (r .read .result) (r .read .ensures .0 f) (m .any2 .given .1)
+          (rw (eq-eqb _ (a .kind) (e .if1 .left), le-ltb _ (a .least) (c .if2 .left))),
       (c .if2 .left, room .1),
     )
 
