@@ -60,14 +60,13 @@ extern "C" {
 #define SCTP_RECEIVE_FRAGMENT_WORDS 512 /* words of its table */
 #define SCTP_RECEIVE_BYTES 32768        /* payload bytes that it holds: the least length of its pool */
 
-/* ---- payload identifiers: any other number is read as unknown, and written as 58 ---- */
+/* ---- payload identifiers: the five that have names. Every number is told, kept and written as it was sent ---- */
 
 #define SCTP_RECEIVE_DCEP 50
 #define SCTP_RECEIVE_STRING 51
 #define SCTP_RECEIVE_BINARY 53
 #define SCTP_RECEIVE_STRING_EMPTY 56
 #define SCTP_RECEIVE_BINARY_EMPTY 57
-#define SCTP_RECEIVE_UNKNOWN 58
 
 /* ---- numbers that wrap: TSNs of 32 bits, SSNs of 16 ----
  * Is i1 before, at or before, after, at or after, the same as i2? At a distance of exactly half way neither is before the other. */
@@ -240,7 +239,7 @@ int32_t sctp_receive_reassembly_queue_is_readable(uint16_t si, uint16_t next_ssn
                                                   const uint8_t *pool, size_t pool_len, bool *is);
 
 /* Takes the oldest finished unordered message, else the first ordered set if it is complete and not after the expected one, to the
- * front of `buffer`: SSN (0 where unordered), payload identifier, and the message in hand: its size, position 0, given false.
+ * front of `buffer`: SSN (0 where unordered), payload identifier as sent, and the message in hand: its size, position 0, given false.
  * Nothing to take: not found, whatever the buffer. Refuses 10, and the message stays. */
 int32_t sctp_receive_reassembly_queue_read(uint16_t *si, uint16_t *next_ssn, uint32_t *max_message_size,
                                            size_t *finished, size_t *unordered, size_t *ordered, size_t *n_bytes,

@@ -17,7 +17,7 @@ fn data() -> (Fields, ChunkPayloadData) {
         tsn: 10,
         stream_identifier: 2,
         stream_sequence_number: 5,
-        payload_type: 51.into(),
+        payload_type: 51,
         ..Fields::default()
     };
     let chunk = ChunkPayloadData {
@@ -40,7 +40,7 @@ fn data_read() -> Row {
     let raw = Bytes::from([&[0; 12][..], &chunk.marshal().unwrap()].concat()).slice(12..);
     let read = ChunkPayloadData::unmarshal(&raw).unwrap();
     assert_eq!((Fields::unmarshal(&raw), Fields::user_data(&raw)), (Ok(f), Ok(&read.user_data[..])));
-    let numbers = (f.tsn, f.stream_identifier, f.stream_sequence_number, f.payload_type as u32);
+    let numbers = (f.tsn, f.stream_identifier, f.stream_sequence_number, f.payload_type);
     assert_eq!((read.tsn, read.stream_identifier, read.stream_sequence_number, read.payload_type as u32), numbers);
     let ours = side(raw.clone(), |_| {}, |raw| {
         for _ in 0..PER {

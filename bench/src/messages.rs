@@ -35,7 +35,7 @@ impl Plan {
             tsn: (number.wrapping_mul(n)).wrapping_add(place),
             stream_identifier: STREAM,
             stream_sequence_number: number as u16,
-            payload_type: 53.into(),
+            payload_type: 53,
             ..Fields::default()
         })
     }
@@ -60,7 +60,7 @@ fn chunk(f: &Fields, packet: &Bytes, size: usize) -> ChunkPayloadData {
         tsn: f.tsn,
         stream_identifier: f.stream_identifier,
         stream_sequence_number: f.stream_sequence_number,
-        payload_type: (f.payload_type as u32).into(),
+        payload_type: f.payload_type.into(),
         user_data: packet.slice(place(f, size)),
         ..Default::default()
     }
@@ -115,7 +115,7 @@ impl Ours {
     /// The same, and what it is.
     fn told(&mut self) -> Option<Told> {
         let message = self.queue.read(&mut self.buffer).expect("room")?;
-        Some((message.ssn(), message.ppi() as u32, message.len()))
+        Some((message.ssn(), message.ppi(), message.len()))
     }
 }
 

@@ -14,7 +14,7 @@ const CUMULATIVE: u32 = 1000;
 const PER: usize = 64;
 
 fn fields(tsn: u32) -> Fields {
-    Fields { beginning_fragment: true, ending_fragment: true, tsn, stream_identifier: 2, payload_type: 53.into(), ..Fields::default() }
+    Fields { beginning_fragment: true, ending_fragment: true, tsn, stream_identifier: 2, payload_type: 53, ..Fields::default() }
 }
 
 fn packet() -> Bytes {
@@ -28,7 +28,7 @@ fn chunk(f: &Fields, packet: &Bytes) -> ChunkPayloadData {
         ending_fragment: f.ending_fragment,
         tsn: f.tsn,
         stream_identifier: f.stream_identifier,
-        payload_type: (f.payload_type as u32).into(),
+        payload_type: f.payload_type.into(),
         user_data: packet.slice(28..),
         ..Default::default()
     }
@@ -114,7 +114,7 @@ fn popped(chunk: ChunkPayloadData) -> Queued {
         tsn: chunk.tsn,
         stream_identifier: chunk.stream_identifier,
         stream_sequence_number: chunk.stream_sequence_number,
-        payload_type: (chunk.payload_type as u32).into(),
+        payload_type: chunk.payload_type as u32,
     };
     Queued { chunk: f, size: chunk.user_data.len() as u16 }
 }

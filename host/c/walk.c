@@ -13,6 +13,7 @@
 enum { STREAM = 2, WINDOW = 1500, MAX_MESSAGE = 1000, SEGMENTS = 4, CHUNK = 64 };
 
 static const uint32_t first_tsn = 4294967294u;
+static const uint32_t loader = 0x4C4F4144u; /* a payload identifier of the loader's own */
 static const char image[] = "software image 7, segment by segment, over the wrap of the TSNs";
 
 static unsigned checks, wrong;
@@ -76,7 +77,7 @@ static void write_chunks(void)
     for (size_t i = 0; i < SEGMENTS; i++) {
         size_t size = i + 1 < SEGMENTS ? each : whole - i * each;
         int32_t k = sctp_receive_data_marshal_to(wire[i], CHUNK, false, i == 0, i + 1 == SEGMENTS, false, first_tsn + (uint32_t)i,
-                                                 STREAM, 0, SCTP_RECEIVE_BINARY, (const uint8_t *)image + i * each, size,
+                                                 STREAM, 0, loader, (const uint8_t *)image + i * each, size,
                                                  &wire_size[i]);
         same("DATA is written", k, SCTP_RECEIVE_OK);
         same("its byte count", (long long)wire_size[i], (long long)(16 + size));
@@ -96,6 +97,7 @@ static struct chunk read_chunk(const uint8_t *raw, size_t size)
     k = sctp_receive_data_user_data(raw, size, &start, &c.size);
     same("its part is read", k, SCTP_RECEIVE_OK);
     same("it starts at byte 16", (long long)start, 16);
+    same("its identifier is as sent", c.ppi, loader);
     c.data = raw + start;
     return c;
 }
@@ -211,7 +213,7 @@ static void take(void)
         same("found", m.found, room == whole);
     }
     printf("taken: SSN %u, identifier %lu, %lu bytes\n", m.ssn, (unsigned long)m.ppi, (unsigned long)m.bytes);
-    same("identifier", m.ppi, SCTP_RECEIVE_BINARY);
+    same("identifier", m.ppi, loader);
     same("bytes", (long long)m.bytes, (long long)whole);
     same("nothing stays held", (long long)(r.n_bytes + r.finished + r.unordered + r.ordered), 0);
     same("the next SSN is expected", r.next_ssn, 1);

@@ -1,7 +1,6 @@
 // What goes on from call to call beside the table and the pool: the queue, how much is lent of the pool, the message in hand, and what was answered last.
 use answer_text::answer;
 use answer_text::answer::Answer;
-use chunk_payload_data::PayloadProtocolIdentifier;
 use chunks::Chunks;
 use reassembly_queue::ReassemblyQueue;
 
@@ -36,7 +35,7 @@ pub fn empty_handed(reach: usize) -> Hand {
     Hand {
         message: Chunks {
             ssn: 0,
-            ppi: PayloadProtocolIdentifier::Unknown,
+            ppi: 0,
             size: 0,
             position: 0,
             given: false,

@@ -62,13 +62,11 @@ fn took(told: Took) -> Answer {
 }
 
 fn message(m: Chunks) -> Answer {
-    let ppi = m.ppi;
-    let identifier = ppi.to_u32() as u64;
     answer::five(
         answer::MESSAGE,
         3,
         m.ssn as u64,
-        identifier,
+        m.ppi as u64,
         m.size as u64,
         0,
         0,

@@ -121,8 +121,7 @@ pub fn is(yes: bool) -> Answer {
 
 // Flags, TSN, stream, SSN, identifier, and a size, where it is one of the numbers that are shown.
 pub fn fields(word: u8, count: u8, f: ChunkPayloadData, size: u64) -> Answer {
-    let payload_type = f.payload_type;
-    let identifier = payload_type.to_u32() as u64;
+    let identifier = f.payload_type as u64;
     let stream = f.stream_identifier as u64;
     let ssn = f.stream_sequence_number as u64;
     let mut told = five(word, count, f.tsn as u64, stream, ssn, identifier, size);

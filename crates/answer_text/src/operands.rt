@@ -1,7 +1,6 @@
 // The operands of a call: numbers, big-endian, at a place of it; 0 where they are not all there.
 ghost use Prim.Native.Nat.{_≤_};
 use chunk_payload_data::ChunkPayloadData;
-use chunk_payload_data::PayloadProtocolIdentifier;
 
 // The most bytes of a raw, of patterned data, or of a lent buffer.
 pub const BYTES: usize = 65600;
@@ -95,7 +94,7 @@ pub fn chunk(flags: u8, tsn: u32, stream: u16, ssn: u16, identifier: u32) -> Chu
         tsn,
         stream_identifier: stream,
         stream_sequence_number: ssn,
-        payload_type: PayloadProtocolIdentifier::from_u32(identifier),
+        payload_type: identifier,
     }
 }
 

@@ -23,7 +23,7 @@ use Rattle.fragments.specs.Pool.{cut}
 use Rattle.fragments.proofs.Pool.{joined-length}
 use Rattle.reassembly_state.specs.Limits.{fragsMost, bytesMost}
 use Rattle.reassembly_state.specs.Model.{Queue, queue, held, Given, roomFor, keepOrdered, moveRun, keepLoose, pushOrdered, pushUnordered, push, Turn, finishedTurn, orderedTurn, firstPpi, turn, readable, noMessage, messageOf, Took, took, taken}
-use Rattle.reassembly_state.specs.State.{State, unsound, view, lay, After, laid, pushed, isReadable, Read, layTaken, shown, read}
+use Rattle.reassembly_state.specs.State.{State, unsound, view, lay, After, laid, pushed, isReadable, Read, layTaken, read}
 use Rattle.reassembly_queue.specs.Queue.{stateOf, fresh}
 use Rattle.reassembly_state.proofs.Laws.{sound}
 use Rattle.reassembly_state.proofs.Laid.{view-lay, sound-lay}
@@ -128,7 +128,7 @@ module _ {s : State} {q : Queue} (h : Holds s q) where
   unfolding isReadable
   readable-is = rw (h .sound, h .seen)
 
-  pub read-is : (buffer : List ℕ) → read s buffer ≡ layTaken s (taken shown q buffer)
+  pub read-is : (buffer : List ℕ) → read s buffer ≡ layTaken s (taken q buffer)
   unfolding read
   read-is buffer = rw (h .sound, h .seen)
 
@@ -136,19 +136,19 @@ module _ {s : State} {q : Queue} (h : Holds s q) where
 abbrev pub told : model.Message → Came
 told m =
     record {
-      told = record { comes = true; ssn = m .ssn; ppi = shown (m .ppi); size = length (m .bytes); position = 0; given = false };
+      told = record { comes = true; ssn = m .ssn; ppi = m .ppi; size = length (m .bytes); position = 0; given = false };
       bytes = m .bytes;
     }
 
 -- into a buffer long enough
 module _ (q : Queue) (buffer : List ℕ) (long : readable q ≡ true → size (turn q .frags) ≤ length buffer) where
   abbrev full : Took
-  full = took (says none (messageOf shown (turn q))) (turn q .queue) (over buffer (joined (turn q .frags)))
+  full = took (says none (messageOf (turn q))) (turn q .queue) (over buffer (joined (turn q .frags)))
 
   abbrev empty : Took
   empty = took (says none noMessage) q buffer
 
-  taken-is : taken shown q buffer ≡ cond (readable q) full empty
+  taken-is : taken q buffer ≡ cond (readable q) full empty
   unfolding taken
   taken-is = go (readable q) refl
     where
@@ -158,17 +158,17 @@ module _ (q : Queue) (buffer : List ℕ) (long : readable q ≡ true → size (t
       go false e = refl
 
   -- one answer or the other
-  by-taken : (P : Took → Bool → Type 0) → P full true → P empty false → P (taken shown q buffer) (readable q)
+  by-taken : (P : Took → Bool → Type 0) → P full true → P empty false → P (taken q buffer) (readable q)
   by-taken P f e = rw taken-is (go (readable q))
     where
       go : (b : Bool) → P (cond b full empty) b
       go true = f
       go false = e
 
-  queue-is : taken shown q buffer .queue ≡ model.afterTake q
+  queue-is : taken q buffer .queue ≡ model.afterTake q
   queue-is = by-taken (λ (t : Took) (b : Bool). t .queue ≡ cond b (turn q .queue) q) refl refl
 
-  unrefused : taken shown q buffer .told .refusal ≡ none
+  unrefused : taken q buffer .told .refusal ≡ none
   unrefused = by-taken (λ (t : Took) (b : Bool). t .told .refusal ≡ none) refl refl
 
   front : take (size (turn q .frags)) (over buffer (joined (turn q .frags))) ≡ joined (turn q .frags)
@@ -176,7 +176,7 @@ module _ (q : Queue) (buffer : List ℕ) (long : readable q ≡ true → size (t
   front = take-at (joined (turn q .frags)) _ (size (turn q .frags)) (joined-length (turn q .frags))
 
   module _ (s : State) (ms : List model.Message) where
-    given-is : given (layTaken s (taken shown q buffer)) (map told ms) ≡ map told (model.given q ms)
+    given-is : given (layTaken s (taken q buffer)) (map told ms) ≡ map told (model.given q ms)
     unfolding messageOf
     given-is =
         by-taken (λ (t : Took) (b : Bool). given (layTaken s t) (map told ms) ≡ map told (cond b (record { ssn = turn q .ssn; ppi = firstPpi (turn q .frags); bytes = joined (turn q .frags) } ∷ ms) ms))
@@ -203,7 +203,7 @@ module _ {s : State} {q : Queue} (h : Holds s q) (b : List ℕ) where
   take-holds : (readable q ≡ true → size (turn q .frags) ≤ length b) → Holds (read s b .state) (model.afterTake q)
   take-holds l =
       subst (λ (r : Read). Holds (r .state) (model.afterTake q)) (sym (read-is h b))
-      (subst (Holds (lay (taken shown q b .queue) s)) (queue-is q b l) (laid-holds h (taken shown q b .queue) (taken-good (h .good) shown b)))
+      (subst (Holds (lay (taken q b .queue) s)) (queue-is q b l) (laid-holds h (taken q b .queue) (taken-good (h .good) b)))
 
 -- calls of one stream on a state, beside the model's events
 pub record Walked (s : State) (q : Queue) (calls : List Call) : Type 0 where

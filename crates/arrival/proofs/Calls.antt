@@ -7,13 +7,10 @@ use Prim.Native.Nat.{ℕ, suc, _*_, _≤_}
 use native.Mathlib.Omega.{arith}
 use lib.ListN.{length}
 use Rattle.wire.specs.Refusal.{none, Told, says}
-use Rattle.chunk_payload_data.specs.Data.{identifierNumber, identifierName}
-use Rattle.chunk_payload_data.specs.declared.PayloadProtocolIdentifier.{PayloadProtocolIdentifier}
-use Rattle.chunk_payload_data.specs.declared.PayloadProtocolIdentifier.the-variants.{Dcep, String, Binary, StringEmpty, BinaryEmpty, Unknown}
 use Rattle.fragments.specs.Words.{size}
 use Rattle.reassembly_state.specs.Limits.{fragsMost, bytesMost}
 use Rattle.reassembly_state.specs.Model.{Queue, held, readable}
-use Rattle.reassembly_state.specs.State.{State, fragments, isReadable, shown}
+use Rattle.reassembly_state.specs.State.{State, fragments, isReadable}
 use Rattle.reassembly_queue.specs.Queue.{stateOf, fresh}
 use Rattle.reassembly_state.proofs.Laws.{held-view}
 use Rattle.reassembly_theorems.proofs.Stays.{bytes-told}
@@ -26,18 +23,8 @@ use Rattle.arrival.proofs.Bridge.{readable-is, told, events, event-push
 
 -- ── the messages, as they are told ──
 
--- an identifier that a chunk bears is shown as it is
-shown-number : (p : PayloadProtocolIdentifier) → shown (identifierNumber p) ≡ identifierNumber p
-unfolding identifierName
-shown-number Dcep = refl
-shown-number String = refl
-shown-number Binary = refl
-shown-number StringEmpty = refl
-shown-number BinaryEmpty = refl
-shown-number Unknown = refl
-
 told-message : (n : ℕ) (m : Sent) → told (model.message n (cutOf m)) ≡ message n m
-told-message n m = rw (shown-number (m .ppi), joined-bytes (m .chunks))
+told-message n m = rw (joined-bytes (m .chunks))
 
 told-in-order : (n : ℕ) (ms : List Sent) → map told (model.inOrder n (map cutOf ms)) ≡ inOrder n ms
 told-in-order n [] = refl

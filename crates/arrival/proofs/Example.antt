@@ -8,9 +8,7 @@ use native.Mathlib.Omega.{arith}
 use lib.ListN.{length}
 use Rattle.wire.specs.Refusal.{none, says}
 use Rattle.serial.specs.Serial.{ahead, distance, before}
-use Rattle.chunk_payload_data.specs.Data.{identifierName, dataFlags, dataSent}
-use Rattle.chunk_payload_data.specs.declared.PayloadProtocolIdentifier.{PayloadProtocolIdentifier}
-use Rattle.chunk_payload_data.specs.declared.PayloadProtocolIdentifier.the-variants.{Dcep, String, Binary, StringEmpty}
+use Rattle.chunk_payload_data.specs.Data.{dataFlags, dataSent}
 use Rattle.moves.specs.Lists.{slice, gone}
 use Rattle.fragments.specs.Words.{size, joined, any, while, past, find, placed}
 use Rattle.fragment_sets.specs.Sets.{setOf, rises, complete, joins, grownSet, stored}
@@ -29,7 +27,7 @@ use Rattle.arrival.proofs.Bridge.{readable-is, told, events, Walked, wa
 -- ── the plan ──
 
 -- a chunk of stream 7
-abbrev pub chunk : Bool → Bool → Bool → ℕ → ℕ → PayloadProtocolIdentifier → List ℕ → Chunk
+abbrev pub chunk : Bool → Bool → Bool → ℕ → ℕ → ℕ → List ℕ → Chunk
 chunk u b e tsn ssn ppi bytes =
     record {
       fields = record {
@@ -47,40 +45,40 @@ chunk u b e tsn ssn ppi bytes =
 
 -- SSN 0, whole and empty
 abbrev empty-0 : Chunk
-empty-0 = chunk false true true 4294967294 0 StringEmpty []
+empty-0 = chunk false true true 4294967294 0 56 []
 
 abbrev empty : Sent
-empty = record { ppi = StringEmpty; first = 0; chunks = empty-0 ∷ [] }
+empty = record { ppi = 56; first = 0; chunks = empty-0 ∷ [] }
 
--- SSN 1, in three
+-- SSN 1, in three, with an identifier that has no name
 abbrev three-0 : Chunk
-three-0 = chunk false true false 1 1 String (67 ∷ [])
+three-0 = chunk false true false 1 1 7 (67 ∷ [])
 
 abbrev three-1 : Chunk
-three-1 = chunk false false false 2 1 String (68 ∷ [])
+three-1 = chunk false false false 2 1 7 (68 ∷ [])
 
 abbrev three-2 : Chunk
-three-2 = chunk false false true 3 1 String (69 ∷ [])
+three-2 = chunk false false true 3 1 7 (69 ∷ [])
 
 abbrev three : Sent
-three = record { ppi = String; first = 3; chunks = three-0 ∷ three-1 ∷ three-2 ∷ [] }
+three = record { ppi = 7; first = 3; chunks = three-0 ∷ three-1 ∷ three-2 ∷ [] }
 
 -- unordered, in two, over the wrap; its SSNs say nothing
 abbrev two-0 : Chunk
-two-0 = chunk true true false 4294967295 8 Binary (65 ∷ [])
+two-0 = chunk true true false 4294967295 8 4294967295 (65 ∷ [])
 
 abbrev two-1 : Chunk
-two-1 = chunk true false true 0 9 Binary (66 ∷ [])
+two-1 = chunk true false true 0 9 4294967295 (66 ∷ [])
 
 abbrev two : Sent
-two = record { ppi = Binary; first = 1; chunks = two-0 ∷ two-1 ∷ [] }
+two = record { ppi = 4294967295; first = 1; chunks = two-0 ∷ two-1 ∷ [] }
 
 -- unordered, whole
 abbrev one-0 : Chunk
-one-0 = chunk true true true 4 0 Dcep (70 ∷ 71 ∷ [])
+one-0 = chunk true true true 4 0 50 (70 ∷ 71 ∷ [])
 
 abbrev one : Sent
-one = record { ppi = Dcep; first = 6; chunks = one-0 ∷ [] }
+one = record { ppi = 50; first = 6; chunks = one-0 ∷ [] }
 
 abbrev pub os : List Sent
 os = empty ∷ three ∷ []
@@ -89,12 +87,12 @@ abbrev pub us : List Sent
 us = one ∷ two ∷ []
 
 -- each chunk bears what its message says
-numbered : (o tsn ssn : ℕ) (ppi : PayloadProtocolIdentifier) (b e : Bool) (bytes : List ℕ) → tsn ≡ tsnAt 4294967294 o
+numbered : (o tsn ssn ppi : ℕ) (b e : Bool) (bytes : List ℕ) → tsn ≡ tsnAt 4294967294 o
     → Part 7 4294967294 (Number ssn) ppi o b e (chunk false b e tsn ssn ppi bytes)
 numbered o tsn ssn ppi b e bytes h =
     record { stream = refl; tsn = h; beginning = refl; ending = refl; identifier = refl; bears = (refl, refl) }
 
-loose : (o tsn ssn : ℕ) (ppi : PayloadProtocolIdentifier) (b e : Bool) (bytes : List ℕ) → tsn ≡ tsnAt 4294967294 o
+loose : (o tsn ssn ppi : ℕ) (b e : Bool) (bytes : List ℕ) → tsn ≡ tsnAt 4294967294 o
     → Part 7 4294967294 Loose ppi o b e (chunk true b e tsn ssn ppi bytes)
 loose o tsn ssn ppi b e bytes h = record { stream = refl; tsn = h; beginning = refl; ending = refl; identifier = refl; bears = refl }
 
@@ -146,7 +144,7 @@ begins = model.starts 7 3
 
 computed : model.Roomy begins (events calls) × Long-on begins calls × (model.final begins (events calls) ≡ queue 7 2 3 [] [] [])
     × (map told (model.out begins (events calls)) ≡ message 0 one ∷ message 0 two ∷ message 0 empty ∷ message 1 three ∷ [])
-unfolding push pushUnordered keepLoose moveRun pushOrdered keepOrdered stored grownSet joins placed any complete rises setOf while past size joined reach run runs find scan startsBy ahead distance before slice gone turn finishedTurn orderedTurn readySet movedOn readable firstSsn firstPpi roomFor fragmentOf dataFlags dataSent identifierName
+unfolding push pushUnordered keepLoose moveRun pushOrdered keepOrdered stored grownSet joins placed any complete rises setOf while past size joined reach run runs find scan startsBy ahead distance before slice gone turn finishedTurn orderedTurn readySet movedOn readable firstSsn firstPpi roomFor fragmentOf dataFlags dataSent
 computed = (
   (refl, (refl, (refl, (refl, (refl, (refl, (refl, tt))))))),
   (omega arith, (omega arith, (omega arith, (omega arith, (omega arith, (omega arith, tt)))))),

@@ -9,7 +9,6 @@ use lib.ListN.{length, length-append, length-map}
 use Rattle.wire.specs.Refusal.{Refusal, none, refuse, Told, says}
 use Rattle.serial.specs.Serial.{ahead, distance, before}
 use Rattle.chunk_payload_data.specs.Data.{dataFlags, dataSent}
-use Rattle.chunk_payload_data.specs.declared.PayloadProtocolIdentifier.the-variants.{Binary}
 use Rattle.moves.specs.Lists.{slice, gone}
 use Rattle.fragments.specs.Frag.{Frag}
 use Rattle.fragments.specs.Words.{size, any, while, past, find, placed}
@@ -17,7 +16,7 @@ use Rattle.fragment_sets.specs.Sets.{setOf, rises, complete, joins, grownSet, s
 use Rattle.loose_fragments.specs.Loose.{runs, run, reach, startsBy, scan}
 use Rattle.reassembly_state.specs.Limits.{fragsMost, bytesMost}
 use Rattle.reassembly_state.specs.Model.{Queue, held, roomFor, keepOrdered, pushOrdered, moveRun, keepLoose, pushUnordered, push, readySet, movedOn, firstSsn, finishedTurn, orderedTurn, turn, readable, messageOf, taken}
-use Rattle.reassembly_state.specs.State.{State, fragmentOf, unsound, shown, pushed, Read, layTaken, read}
+use Rattle.reassembly_state.specs.State.{State, fragmentOf, unsound, pushed, Read, layTaken, read}
 use Rattle.reassembly_queue.specs.Queue.{stateOf, fresh}
 use Rattle.reassembly_state.proofs.Laws.{held-view}
 use Rattle.arrival.specs.Plan as model
@@ -59,13 +58,13 @@ record Shows (max : ℕ) (calls : List Call) (m n : ℕ) : Type 0 where
 
 -- chunks of one byte: unordered ones by B, E and TSN, whole ordered ones by SSN and TSN
 abbrev loose : Bool → Bool → ℕ → Chunk
-loose b e tsn = chunk true b e tsn 0 Binary (65 ∷ [])
+loose b e tsn = chunk true b e tsn 0 53 (65 ∷ [])
 
 abbrev numbered : ℕ → ℕ → Chunk
-numbered ssn tsn = chunk false true true tsn ssn Binary (65 ∷ [])
+numbered ssn tsn = chunk false true true tsn ssn 53 (65 ∷ [])
 
 abbrev sent : ℕ → List Chunk → Sent
-sent first cs = record { ppi = Binary; first = first; chunks = cs }
+sent first cs = record { ppi = 53; first = first; chunks = cs }
 
 abbrev buffer : List ℕ
 buffer = 0 ∷ 0 ∷ 0 ∷ []
@@ -126,12 +125,12 @@ refused : (k : ℕ) {r : Refusal} → r ≡ refuse k → r ≡ none → ⊥
 refused k e f = let z : suc k ≡ 0 = ap number (sym e ∙ f) in absurd (omega arith)
 
 no-room : (bytes : List ℕ) → length bytes ≡ 32769
-    → push (roomFor (model.starts 7 40000) (fragOf (chunk true true true 1 0 Binary bytes))) (model.starts 7 40000) 7 true (fragOf (chunk true true true 1 0 Binary bytes)) .told
+    → push (roomFor (model.starts 7 40000) (fragOf (chunk true true true 1 0 53 bytes))) (model.starts 7 40000) 7 true (fragOf (chunk true true true 1 0 53 bytes)) .told
     ≡ says (refuse 8) false
 unfolding push pushUnordered reach run any roomFor size fragmentOf dataFlags
 no-room bytes e = rw e
 
-too-short : taken shown (model.afterPush (model.starts 7 3) (pieceOf (loose true true 1))) [] .told .refusal ≡ refuse 10
+too-short : taken (model.afterPush (model.starts 7 3) (pieceOf (loose true true 1))) [] .told .refusal ≡ refuse 10
 unfolding taken push pushUnordered keepLoose moveRun placed any reach run runs find scan startsBy slice gone turn finishedTurn readable size while roomFor fragmentOf dataFlags dataSent
 too-short = refl
 
@@ -155,7 +154,7 @@ merge-leading (right g) e = absurd (omega arith)
 abbrev last : Chunk
 last = numbered 32768 32768
 
-last-leads : (s : State) (ms : List Came) → leading (given (layTaken s (taken shown (model.afterPush (model.starts 7 3) (pieceOf last)) buffer)) ms) ≡ 32768
+last-leads : (s : State) (ms : List Came) → leading (given (layTaken s (taken (model.afterPush (model.starts 7 3) (pieceOf last)) buffer)) ms) ≡ 32768
 unfolding taken messageOf push pushOrdered keepOrdered stored grownSet joins setOf while past size any placed complete rises ahead distance before turn orderedTurn firstSsn readySet readable roomFor fragmentOf dataFlags dataSent
 last-leads s ms = refl
 
@@ -221,9 +220,9 @@ module _ (ws pool : List ℕ) (w : length ws ≡ 4 * fragsMost) (p : bytesMost �
 
   -- "room never exceeded": 32,769 bytes
   pub room : (bytes : List ℕ) → length bytes ≡ 32769
-      → Arrived [] (sent 0 (chunk true true true 1 0 Binary bytes ∷ []) ∷ []) (start 40000) (Push (chunk true true true 1 0 Binary bytes) ∷ []) → ⊥
+      → Arrived [] (sent 0 (chunk true true true 1 0 53 bytes ∷ []) ∷ []) (start 40000) (Push (chunk true true true 1 0 53 bytes) ∷ []) → ⊥
   room bytes e a =
-      let c : Chunk = chunk true true true 1 0 Binary bytes in
+      let c : Chunk = chunk true true true 1 0 53 bytes in
       refused 8 (ap (λ (t : Told Bool). t .refusal) (push-told (fresh-holds 7 40000 ws pool w p) c refl ∙ no-room bytes e)) (a .unrefused .0)
 
   -- "take buffers long enough": an empty one for a byte

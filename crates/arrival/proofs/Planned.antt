@@ -9,8 +9,7 @@ use native.Mathlib.Omega.{arith}
 use borrow.Author.Tests.{leb-true, leb-false}
 use lib.Dec.{leb}
 use lib.ListN.{length, length-map}
-use Rattle.chunk_payload_data.specs.Data.{identifierNumber, dataSent}
-use Rattle.chunk_payload_data.specs.declared.PayloadProtocolIdentifier.{PayloadProtocolIdentifier}
+use Rattle.chunk_payload_data.specs.Data.{dataSent}
 use Rattle.fragments.specs.Frag.{Frag}
 use Rattle.fragments.specs.Words.{joined}
 use Rattle.fragments.proofs.Pool.{joined-length}
@@ -29,7 +28,7 @@ abbrev pub pieceOf : Chunk → model.Carried
 pieceOf c = model.chunk (c .fields .unordered) (fragOf c)
 
 abbrev pub cutOf : Sent → model.Msg
-cutOf m = record { first = m .first; ppi = identifierNumber (m .ppi); frags = map fragOf (m .chunks) }
+cutOf m = record { first = m .first; ppi = m .ppi; frags = map fragOf (m .chunks) }
 
 null-map : (cs : List Chunk) → model.null (map fragOf cs) ≡ null cs
 null-map [] = refl
@@ -73,22 +72,22 @@ pieces : (kind : Kind) (cs : List Chunk) → Each (Bearing kind) cs → map piec
 pieces kind [] h = refl
 pieces kind (c ∷ cs) h = rw (marked kind c (h .0), pieces kind cs (h .1))
 
-module _ (si base : ℕ) (kind : Kind) (ppi : PayloadProtocolIdentifier) where
-  piece : (o : ℕ) (b e : Bool) (c : Chunk) → Part si base kind ppi o b e c → model.Piece base o (identifierNumber ppi) b e (fragOf c)
+module _ (si base : ℕ) (kind : Kind) (ppi : ℕ) where
+  piece : (o : ℕ) (b e : Bool) (c : Chunk) → Part si base kind ppi o b e c → model.Piece base o ppi b e (fragOf c)
   unfolding fragmentOf dataSent
   piece o b e c p =
       record {
         tsn = p .tsn;
-        ppi = ap identifierNumber (p .identifier);
+        ppi = p .identifier;
         begin = chunk-begins (c .fields) (c .bytes) ∙ p .beginning;
         end = chunk-ends (c .fields) (c .bytes) ∙ p .ending;
       }
 
-  later : (o : ℕ) (cs : List Chunk) → Later si base kind ppi o cs → model.Later base o (identifierNumber ppi) (map fragOf cs)
+  later : (o : ℕ) (cs : List Chunk) → Later si base kind ppi o cs → model.Later base o ppi (map fragOf cs)
   later o [] h = tt
   later o (c ∷ cs) h = (rw (null-map cs) (piece o false (null cs) c (h .0)), later (suc o) cs (h .1))
 
-  cut : (o : ℕ) (cs : List Chunk) → Cut si base kind ppi o cs → model.Cut base o (identifierNumber ppi) (map fragOf cs)
+  cut : (o : ℕ) (cs : List Chunk) → Cut si base kind ppi o cs → model.Cut base o ppi (map fragOf cs)
   cut o [] h = h
   cut o (c ∷ cs) h = (rw (null-map cs) (piece o true (null cs) c (h .0)), later (suc o) cs (h .1))
 

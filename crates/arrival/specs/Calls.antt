@@ -7,9 +7,7 @@ use mathlib.Core.List.{List, [], _∷_, _++_, map}
 use Prim.Native.Nat.{ℕ, suc, _+_, _*_, _^_, _≤_}
 use lib.ListN.{length, take}
 use Rattle.wire.specs.Refusal.{none, says}
-use Rattle.chunk_payload_data.specs.Data.{identifierNumber}
 use Rattle.chunk_payload_data.specs.declared.ChunkPayloadData.{ChunkPayloadData}
-use Rattle.chunk_payload_data.specs.declared.PayloadProtocolIdentifier.{PayloadProtocolIdentifier}
 use Rattle.fragments.specs.Words.{size}
 use Rattle.reassembly_state.specs.Limits.{fragsMost, bytesMost}
 use Rattle.reassembly_state.specs.Model.{Message, noMessage, turn, roomFor}
@@ -26,7 +24,7 @@ pub record Chunk : Type 0 where
 
 -- a message of the stream, cut: its payload identifier, the place of its first TSN in the arc, and its chunks
 pub record Sent : Type 0 where
-  pub ppi : PayloadProtocolIdentifier
+  pub ppi : ℕ
   pub first : ℕ
   pub chunks : List Chunk
 
@@ -51,7 +49,7 @@ bytesOf [] = []
 bytesOf (c ∷ cs) = c .bytes ++ bytesOf cs
 
 -- a chunk of a message, the first or not, the last or not, at place o of an arc of TSNs that starts at base
-pub record Part (si base : ℕ) (kind : Kind) (ppi : PayloadProtocolIdentifier) (o : ℕ) (first last : Bool) (c : Chunk) : Type 0 where
+pub record Part (si base : ℕ) (kind : Kind) (ppi o : ℕ) (first last : Bool) (c : Chunk) : Type 0 where
   -- "one stream's"
   pub stream : c .fields .«stream_identifier» ≡ si
   -- "consecutive TSNs"
@@ -65,7 +63,7 @@ pub record Part (si base : ℕ) (kind : Kind) (ppi : PayloadProtocolIdentifier) 
   -- "each chunk bearing its message's U mark and, if ordered, its number"
   pub bears : Bears kind (c .fields)
 
-module _ (si base : ℕ) (kind : Kind) (ppi : PayloadProtocolIdentifier) where
+module _ (si base : ℕ) (kind : Kind) (ppi : ℕ) where
   -- the chunks behind the first
   abbrev pub Later : ℕ → List Chunk → Type 0
   Later o [] = Unit {0}
@@ -186,7 +184,7 @@ Unrefused s (Take b ∷ cs) = (read s b .told .refusal ≡ none) × Unrefused (r
 abbrev pub message : ℕ → Sent → Came
 message n m =
     record {
-      told = record { comes = true; ssn = n; ppi = identifierNumber (m .ppi); size = length (bytesOf (m .chunks)); position = 0; given = false };
+      told = record { comes = true; ssn = n; ppi = m .ppi; size = length (bytesOf (m .chunks)); position = 0; given = false };
       bytes = bytesOf (m .chunks);
     }
 

@@ -17,9 +17,9 @@ use Rattle.chunk_payload_data.specs.declared.PayloadProtocolIdentifier.t
 use Rattle.chunk_payload_data.specs.declared.Unmarshalled.{Unmarshalled}
 use Rattle.chunk_payload_data.specs.declared.Unmarshalled.the-variants as answers
 
--- ── the payload identifier ──
+-- ── the names of payload identifiers: "the 32-bit number, with the five names as a reading of it" ──
 
--- "Identifiers 50, 51, 53, 56 and 57 have names"; Unknown "is written as 58"
+-- "Identifiers 50, 51, 53, 56 and 57 have names"; Unknown stands for 58
 abbrev pub identifierNumber : PayloadProtocolIdentifier → ℕ
 identifierNumber Dcep = 50
 identifierNumber String = 51
@@ -58,7 +58,7 @@ pub record DataValues : Type 0 where
 abbrev pub noData : DataValues
 noData = record { unordered = false; beginning = false; ending = false; immediate = false; tsn = 0; stream = 0; ssn = 0; identifier = 0 }
 
--- what the fields on the wire say
+-- what the fields on the wire say; "7 reads as 7"
 unfoldable pub dataShown : ℕ → Data → DataValues
 dataShown flags d =
     record {
@@ -69,7 +69,7 @@ dataShown flags d =
       tsn = d .tsn;
       stream = d .stream;
       ssn = d .ssn;
-      identifier = identifierNumber (identifierName (d .identifier));
+      identifier = d .identifier;
     }
 
 -- what the struct holds
@@ -83,7 +83,7 @@ dataHeld p =
       tsn = p .tsn;
       stream = p .«stream_identifier»;
       ssn = p .«stream_sequence_number»;
-      identifier = identifierNumber (p .«payload_type»);
+      identifier = p .«payload_type»;
     }
 
 -- the number and the values of each case
@@ -118,7 +118,7 @@ dataFlags p = weighed 1 (p .«ending_fragment») + weighed 2 (p .«beginning_fra
 
 unfoldable pub dataSent : ChunkPayloadData → Data
 dataSent p =
-    record { tsn = p .tsn; stream = p .«stream_identifier»; ssn = p .«stream_sequence_number»; identifier = identifierNumber (p .«payload_type») }
+    record { tsn = p .tsn; stream = p .«stream_identifier»; ssn = p .«stream_sequence_number»; identifier = p .«payload_type» }
 
 -- 15: "writing empty data"; 9: "DATA above 65,519 data bytes"
 abbrev pub sizeChecks : ℕ → List Check

@@ -11,7 +11,7 @@ use chunk::ACCEPTED;
 use chunk::Marshalled;
 use chunk::chunk_header;
 
-// What the user data is: five identifiers have names.
+// What a payload identifier says of the user data: five have names. It is a reading of the number alone; what is kept and sent is the number.
 pub enum PayloadProtocolIdentifier {
     Dcep,
     String,
@@ -21,7 +21,7 @@ pub enum PayloadProtocolIdentifier {
     Unknown,
 }
 
-// The fields of a DATA chunk before its user data.
+// The fields of a DATA chunk before its user data; the payload identifier is the number as it was sent.
 pub struct ChunkPayloadData {
     pub unordered: bool,
     pub beginning_fragment: bool,
@@ -30,7 +30,7 @@ pub struct ChunkPayloadData {
     pub tsn: u32,
     pub stream_identifier: u16,
     pub stream_sequence_number: u16,
-    pub payload_type: PayloadProtocolIdentifier,
+    pub payload_type: u32,
 }
 
 pub enum Unmarshalled {
@@ -108,8 +108,7 @@ fn fields(raw: &[u8], flags: u8) -> ChunkPayloadData
     let tsn = wire::get_u32(raw, 4);
     let stream_identifier = wire::get_u16(raw, 8);
     let stream_sequence_number = wire::get_u16(raw, 10);
-    let number = wire::get_u32(raw, 12);
-    let payload_type = PayloadProtocolIdentifier::from_u32(number);
+    let payload_type = wire::get_u32(raw, 12);
     ChunkPayloadData {
         unordered: flags / 4 % 2 == 1,
         beginning_fragment: flags / 2 % 2 == 1,
@@ -173,8 +172,6 @@ pub fn marshal_to(out: &mut [u8], fields: ChunkPayloadData, user: &[u8]) -> Mars
         return Marshalled::Refused(10);
     }
     let flags = flags_of(fields);
-    let payload_type = fields.payload_type;
-    let number = payload_type.to_u32();
     fields::put_front_4224(
         out,
         0,
@@ -183,7 +180,7 @@ pub fn marshal_to(out: &mut [u8], fields: ChunkPayloadData, user: &[u8]) -> Mars
         fields.tsn,
         fields.stream_identifier,
         fields.stream_sequence_number,
-        number,
+        fields.payload_type,
     );
     wire::put_bytes(&mut out[16..], user);
     Marshalled::Bytes(size)

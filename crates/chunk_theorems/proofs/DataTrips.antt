@@ -5,24 +5,28 @@ use mathlib.Core.Bool.{Bool, true, false}
 use mathlib.Core.List.{List, _++_}
 use Prim.Native.Nat.{ℕ, _+_, _-_, _*_, _/_, _%_, _^_, _<_, _≤_}
 use native.Mathlib.Omega.{arith}
-use borrow.Author.Tests.{ne-eqb, eqb-true, eqb-false}
+use borrow.Author.Tests.{ne-eqb, eqb-true, eqb-false, le-ltb}
 use lib.Dec.{eqb}
 use lib.ListN.{length, take, drop, length-drop}
 use lib.Seq.{take-all, take-at}
 use denote.Ref.{RefT}
-use Rattle.wire.specs.Refusal.{none, says, first}
+use Rattle.wire.specs.BigEndian.{over}
+use Rattle.wire.specs.Refusal.{none, says, first, written}
 use Rattle.chunk.specs.Layout.{Header, header}
 use Rattle.chunk_payload_data.specs.Layout.{Data, DataFits, dataValue, dataChunk}
-use Rattle.wire.proofs.Reading.{first-passed, none-both}
+use Rattle.wire.proofs.Reading.{accepted, first-passed, none-holds, none-both}
+use Rattle.wire.proofs.Writing.{write-done}
 use Rattle.chunk.specs.Header.{HeaderFront, kindChecks, Headed, HeadedFits}
 use Rattle.chunk.specs.Part.{Part}
-use Rattle.chunk_payload_data.specs.Data.{identifierNumber, identifierName, flagSet, weighed, DataValues, dataShown, dataHeld, dataTold, DataFront, dataOnly, dataChecks, dataRead, userData, dataFlags, dataSent}
+use Rattle.chunk_payload_data.specs.Data.{identifierNumber, identifierName, flagSet, weighed, DataValues, noData, dataShown, dataHeld, dataTold, DataFront, dataOnly, dataChecks, dataRead, userData, dataFlags, dataSent, sizeChecks, dataWritten}
 use Rattle.chunk_payload_data.specs.declared.ChunkPayloadData.{ChunkPayloadData}
+use Rattle.chunk_payload_data.specs.declared.PayloadProtocolIdentifier.{PayloadProtocolIdentifier}
+use Rattle.chunk_payload_data.specs.declared.PayloadProtocolIdentifier.the-variants.{Dcep, String, Binary, StringEmpty, BinaryEmpty, Unknown}
 use Rattle.chunk_payload_data.specs.declared.Unmarshalled as «data»
 use Rattle.chunk_payload_data.specs.declared.Unmarshalled.the-variants as data-is
 use Rattle.chunk.proofs.Headers.{header-front, passes, headed-accepted, chunk-front, chunk-behind, chunk-passes, part-back}
 use Rattle.chunk_payload_data.proofs.DataBytes.{data-value-length}
-use Rattle.chunk_theorems.proofs.OneAnswer.{data-told-one, name-of-number}
+use Rattle.chunk_theorems.proofs.OneAnswer.{data-told-one}
 
 -- ── what is accepted is a DATA chunk of the fields in front and of the user data ──
 
@@ -135,7 +139,7 @@ module _ (p : ChunkPayloadData) where
   unfolding dataShown dataFlags dataSent dataHeld
   sent-shown =
       let f = flags-shown (p .«ending_fragment») (p .«beginning_fragment») (p .unordered) (p .«immediate_sack») in
-      rw (f .unordered, f .beginning, f .ending, f .immediate, name-of-number (p .«payload_type»))
+      rw (f .unordered, f .beginning, f .ending, f .immediate)
 
   -- read behind a write into any buffer, the struct comes back
   pub data-written-read : (user rest : List ℕ) → Sendable (dataFlags p) (dataSent p) user → (r : «data».Unmarshalled)
@@ -145,10 +149,9 @@ module _ (p : ChunkPayloadData) where
 
 -- ── writing what was read gives the same bytes ──
 
--- the upper four flag bits are 0, the identifier is one of the five or 58, and nothing follows the length
-pub record Plain (h : Header) (d : Data) (raw : List ℕ) : Type 0 where
+-- "whenever the upper flag bits are 0 and nothing follows the length"
+pub record Plain (h : Header) (raw : List ℕ) : Type 0 where
   pub flags : h .flags < 16
-  pub named : identifierNumber (identifierName (d .identifier)) ≡ d .identifier
   pub last : h .size ≡ length raw
 
 -- a flag that is read weighs what it stood for
@@ -168,7 +171,7 @@ flags-back n h =
     let eight : n / 8 % 2 ≡ n / 8 = omega arith in
     rw (weighed-read 1 (n / 1), weighed-read 2 (n / 2), weighed-read 4 (n / 4), weighed-read 8 (n / 8)) (omega (arith, one, two, four, eight))
 
-pub data-read-written : (raw : List ℕ) (f : DataFront raw) → first (dataChecks (length raw) (f .fields .header)) ≡ none → Plain (f .fields .header) (f .fields .fields) raw
+pub data-read-written : (raw : List ℕ) (f : DataFront raw) → first (dataChecks (length raw) (f .fields .header)) ≡ none → Plain (f .fields .header) raw
     → (p : ChunkPayloadData) → dataHeld p ≡ dataShown (f .fields .header .flags) (f .fields .fields) → dataChunk (dataFlags p) (dataSent p) (drop 16 raw) ≡ raw
 unfolding dataHeld dataShown dataFlags dataSent
 data-read-written raw f e plain p held =
@@ -178,7 +181,37 @@ data-read-written raw f e plain p held =
     rw (ap (λ (v : DataValues). v .unordered) held, ap (λ (v : DataValues). v .beginning) held, ap (λ (v : DataValues). v .ending) held, ap (λ (v : DataValues). v .immediate) held)
     (flags-back (h .flags) (plain .flags)) in
     let sent : dataSent p ≡ d =
-    rw (ap (λ (v : DataValues). v .tsn) held, ap (λ (v : DataValues). v .stream) held, ap (λ (v : DataValues). v .ssn) held, ap (λ (v : DataValues). v .identifier) held, plain .named) in
+    rw (ap (λ (v : DataValues). v .tsn) held, ap (λ (v : DataValues). v .stream) held, ap (λ (v : DataValues). v .ssn) held, ap (λ (v : DataValues). v .identifier) held) in
     let user : take (h .size - 16) (drop 16 raw) ≡ drop 16 raw = take-all (h .size - 16) (drop 16 raw) (rw length-drop (omega (arith, plain .last))) in
     let all : take (h .size) raw ≡ raw = take-all (h .size) raw (omega (arith, plain .last)) in
     rw (bits, sent) (ap (dataChunk (h .flags) d) (sym user) ∙ sym (data-accepted raw f e) ∙ all)
+
+-- "Reading then writing now returns the same bytes": what meets the promise of `unmarshal` with fields, written with the data behind them into any buffer
+-- that has room, leaves the chunk's own bytes at its front
+pub data-same-bytes : (raw : List ℕ) (f : DataFront raw) → Plain (f .fields .header) raw
+    → (p : ChunkPayloadData) → ((g : DataFront raw) → dataTold (data-is.Fields p) ≡ dataRead (length raw) (g .fields))
+    → (out : List ℕ) → length raw ≤ length out → dataWritten p (drop 16 raw) out ≡ written (says none (length raw)) (over out raw)
+unfolding dataRead dataWritten
+data-same-bytes raw f plain p promise out room =
+    let h = f .fields .header in
+    let a = accepted noData (dataShown (h .flags) (f .fields .fields)) (first (dataChecks (length raw) h)) (promise f) in
+    let no = none-both (kindChecks 0 16 4 (length raw) h) (dataOnly h) (a .0) in
+    let least = passes 0 16 4 (length raw) h (no .0) .enough in
+    let more = eqb-false (h .size) 16 (none-holds (dataOnly h) (no .1) .0) in
+    let user : length (drop 16 raw) ≡ length raw - 16 = length-drop 16 raw in
+    let some : length (drop 16 raw) ≡ 0 → ⊥ = λ e. more (omega (arith, least, plain .last, user, e)) in
+    let few : length (drop 16 raw) ≤ 65519 = omega (arith, plain .last, user, f .fits .header .size) in
+    rw (data-read-written raw f (a .0) plain p (a .1))
+    (sym (write-done (sizeChecks (length (drop 16 raw))) raw out (rw (ne-eqb _ 0 some, le-ltb 65519 _ few)) refl room refl))
+
+-- ── the names are a reading of the number ──
+
+-- a name is the name of its number
+pub name-of-number : (p : PayloadProtocolIdentifier) → identifierName (identifierNumber p) ≡ p
+unfolding identifierName
+name-of-number Dcep = refl
+name-of-number String = refl
+name-of-number Binary = refl
+name-of-number StringEmpty = refl
+name-of-number BinaryEmpty = refl
+name-of-number Unknown = refl

@@ -11,7 +11,7 @@ use Rattle.chunk.specs.Layout.{Header}
 use Rattle.chunk_selective_ack.specs.Layout.{Sack, Block}
 use Rattle.chunk.specs.Header.{HeaderFront, headerChecks, kindChecks, headerTold, headerRead}
 use Rattle.chunk.specs.Part.{Part}
-use Rattle.chunk_payload_data.specs.Data.{identifierNumber, identifierName, DataValues, dataHeld, dataTold, DataFront, dataChecks, dataRead, userData}
+use Rattle.chunk_payload_data.specs.Data.{DataValues, dataHeld, dataTold, DataFront, dataChecks, dataRead, userData}
 use Rattle.chunk_selective_ack.specs.Sack.{sackHeld, sackTold, SackFront, sackRead, blocksPart, duplicatesPart, BlockFront, blockTold, blockRead, TsnFront, tsnTold, tsnRead}
 use Rattle.chunk_forward_tsn.specs.Layout.{Pair}
 use Rattle.chunk_forward_tsn.specs.ForwardTsn.{Forward, forwardTold, ForwardFront, forwardRead, pairsPart, PairFront, pairTold, pairRead}
@@ -19,8 +19,6 @@ use Rattle.chunk.specs.Marshal.{marshalTold}
 use Rattle.chunk.specs.declared.chunk_header.Unmarshalled as head
 use Rattle.chunk.specs.declared.chunk_header.Unmarshalled.the-variants as head-is
 use Rattle.chunk_payload_data.specs.declared.ChunkPayloadData.{ChunkPayloadData}
-use Rattle.chunk_payload_data.specs.declared.PayloadProtocolIdentifier.{PayloadProtocolIdentifier}
-use Rattle.chunk_payload_data.specs.declared.PayloadProtocolIdentifier.the-variants.{Dcep, String, Binary, StringEmpty, BinaryEmpty, Unknown}
 use Rattle.chunk_payload_data.specs.declared.Unmarshalled as «data»
 use Rattle.chunk_payload_data.specs.declared.Unmarshalled.the-variants as data-is
 use Rattle.chunk_selective_ack.specs.declared.Unmarshalled as sack
@@ -55,16 +53,6 @@ unfolding header-back
 header-inverse (head-is.Header h) = refl
 header-inverse (head-is.Refused k) = refl
 
--- a name is the name of its number
-pub name-of-number : (p : PayloadProtocolIdentifier) → identifierName (identifierNumber p) ≡ p
-unfolding identifierName
-name-of-number Dcep = refl
-name-of-number String = refl
-name-of-number Binary = refl
-name-of-number StringEmpty = refl
-name-of-number BinaryEmpty = refl
-name-of-number Unknown = refl
-
 data-back : Told DataValues → «data».Unmarshalled
 data-back t = go (t .refusal)
   where
@@ -78,7 +66,7 @@ data-back t = go (t .refusal)
           tsn = v .tsn;
           «stream_identifier» = v .stream;
           «stream_sequence_number» = v .ssn;
-          «payload_type» = identifierName (v .identifier);
+          «payload_type» = v .identifier;
         }
 
     go : Refusal → «data».Unmarshalled
@@ -87,7 +75,7 @@ data-back t = go (t .refusal)
 
 data-inverse : (r : «data».Unmarshalled) → data-back (dataTold r) ≡ r
 unfolding data-back dataHeld
-data-inverse (data-is.Fields p) = rw (name-of-number (p .«payload_type»))
+data-inverse (data-is.Fields p) = refl
 data-inverse (data-is.Refused k) = refl
 
 pub data-told-one : {r s : «data».Unmarshalled} → dataTold r ≡ dataTold s → r ≡ s

@@ -5,13 +5,12 @@ ghost use lib.ListN.{length, take};
 ghost use Rattle.wire.specs.BigEndian.{over};
 ghost use Rattle.wire.specs.Refusal.{written};
 ghost use Rattle.chunks.specs.Message.{numberTold, flagTold, pieceTold, unsound, size, isEmpty, wholeRead, after, finished, moved, nextPiece};
-use chunk_payload_data::PayloadProtocolIdentifier;
 
-// A message: its SSN (0 where it is unordered), its payload identifier, its number of bytes, the place of the next piece, and whether an
-// empty message's one piece was given.
+// A message: its SSN (0 where it is unordered), its payload identifier as it was sent, its number of bytes, the place of the next piece, and
+// whether an empty message's one piece was given.
 pub struct Chunks {
     pub ssn: u16,
-    pub ppi: PayloadProtocolIdentifier,
+    pub ppi: u32,
     pub size: usize,
     pub position: usize,
     pub given: bool,

@@ -5,9 +5,8 @@ use mathlib.Core.Bool.{Bool, cond}
 use mathlib.Core.List.{List}
 use Prim.Native.Nat.{ℕ}
 use Rattle.wire.specs.Refusal.{Refusal, none, refuse, Told}
-use Rattle.chunk_payload_data.specs.Data.{DataValues, dataHeld, identifierName}
+use Rattle.chunk_payload_data.specs.Data.{DataValues, dataHeld}
 use Rattle.chunk_payload_data.specs.declared.ChunkPayloadData.{ChunkPayloadData}
-use Rattle.chunk_theorems.proofs.OneAnswer.{name-of-number}
 use Rattle.payload_model.specs.Queue.{Found, Last, Handed}
 use Rattle.payload_model.specs.Answers.{flagTold, numberTold, queuedFound, takenTold, lastTold, doneTold, handedTold}
 use Rattle.payload_model.specs.declared.Flag.{Flag}
@@ -61,7 +60,7 @@ number-back (numbers.Refused k) = refl
 pub number-one : {b : Told ℕ} → Only (λ (r : Number). numberTold r ≡ b)
 number-one = only numberTold (back numbers.Is numbers.Refused) number-back
 
--- a chunk, by its values: the identifier is the name of its number
+-- a chunk, by its values
 abbrev chunkHeld : DataValues → ChunkPayloadData
 chunkHeld v =
     record {
@@ -72,7 +71,7 @@ chunkHeld v =
       tsn = v .tsn;
       «stream_identifier» = v .stream;
       «stream_sequence_number» = v .ssn;
-      «payload_type» = identifierName (v .identifier);
+      «payload_type» = v .identifier;
     }
 
 abbrev chunkTaken : Found → Taken
@@ -80,7 +79,7 @@ chunkTaken f = cond (f .found) (chunks.Chunk (record { chunk = chunkHeld (f .val
 
 taken-back : (r : Taken) → back chunkTaken chunks.Refused (takenTold r) ≡ r
 unfolding queuedFound dataHeld
-taken-back (chunks.Chunk q) = rw (name-of-number (q .chunk .«payload_type»))
+taken-back (chunks.Chunk q) = refl
 taken-back chunks.Nothing = refl
 taken-back (chunks.Refused k) = refl
 
@@ -146,14 +145,14 @@ piece-one = only hand.pieceTold (back placeTaken pieces.Refused) piece-back
 -- ── of the reassembly queue ──
 
 abbrev inHand : Message → Chunks
-inHand m = record { ssn = m .ssn; ppi = identifierName (m .ppi); size = m .size; position = m .position; given = m .given }
+inHand m = record { ssn = m .ssn; ppi = m .ppi; size = m .size; position = m .position; given = m .given }
 
 abbrev messageTaken : Message → Took
 messageTaken m = cond (m .comes) (messages.Message (inHand m)) messages.Nothing
 
 took-back : (r : Took) → back messageTaken messages.Refused (rq.tookTold r) ≡ r
 unfolding rq.messageHeld
-took-back (messages.Message c) = rw (name-of-number (c .ppi))
+took-back (messages.Message c) = refl
 took-back messages.Nothing = refl
 took-back (messages.Refused k) = refl
 

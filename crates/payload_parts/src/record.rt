@@ -3,7 +3,6 @@ ghost use mathlib.Core.Path.{_≡_};
 ghost use Rattle.payload_model.specs.Queue.{rowOf, chunkOf};
 ghost use Rattle.payload_model.specs.Answers.{queuedFound};
 use chunk_payload_data::ChunkPayloadData;
-use chunk_payload_data::PayloadProtocolIdentifier;
 use payload_model::Queued;
 use table::Row;
 
@@ -12,13 +11,11 @@ pub fn row_of(chunk: ChunkPayloadData, size: u16) -> Row
     ensures { λ r. ⌜ r ≡ rowOf chunk size ⌝ }
 {
     let flags = chunk_payload_data::flags_of(chunk);
-    let payload_type = chunk.payload_type;
-    let ppi = payload_type.to_u32();
     Row {
         head: (flags as u32) * 16777216 + size as u32,
         tsn: chunk.tsn,
         id: (chunk.stream_identifier as u32) * 65536 + chunk.stream_sequence_number as u32,
-        ppi,
+        ppi: chunk.payload_type,
     }
 }
 
@@ -27,8 +24,6 @@ pub fn chunk_of(row: Row) -> Queued
     ensures { λ r. ⌜ queuedFound r ≡ chunkOf row ⌝ }
 {
     let flags = row.head / 16777216;
-    let number = row.ppi;
-    let payload_type = PayloadProtocolIdentifier::from_u32(number);
     let chunk = ChunkPayloadData {
         unordered: flags / 4 % 2 == 1,
         beginning_fragment: flags / 2 % 2 == 1,
@@ -37,7 +32,7 @@ pub fn chunk_of(row: Row) -> Queued
         tsn: row.tsn,
         stream_identifier: (row.id / 65536) as u16,
         stream_sequence_number: (row.id % 65536) as u16,
-        payload_type,
+        payload_type: row.ppi,
     };
     Queued {
         chunk,

@@ -2,7 +2,6 @@
 -- Assumes nothing.
 use mathlib.Core.Bool.{Bool, true, false}
 use Rattle.wire.specs.Refusal.{none, refuse, Told, says}
-use Rattle.chunk_payload_data.specs.Data.{identifierNumber}
 use Rattle.reassembly_state.specs.Model.{Message, noMessage}
 use Rattle.chunks.specs.declared.Chunks.{Chunks}
 use Rattle.reassembly_state.specs.declared.Took.{Took}
@@ -13,7 +12,7 @@ use Rattle.reassembly_state.specs.declared.Done.the-variants as dones
 -- a message in hand, by its numbers
 unfoldable pub messageHeld : Chunks → Message
 messageHeld c =
-    record { comes = true; ssn = c .ssn; ppi = identifierNumber (c .ppi); size = c .size; position = c .position; given = c .given }
+    record { comes = true; ssn = c .ssn; ppi = c .ppi; size = c .size; position = c .position; given = c .given }
 
 abbrev pub tookTold : Took → Told Message
 tookTold (messages.Message c) = says none (messageHeld c)

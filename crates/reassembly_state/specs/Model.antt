@@ -164,17 +164,17 @@ pub record Took : Type 0 where
 abbrev pub took : Told Message → Queue → List ℕ → Took
 took t q b = record { told = t; queue = q; buffer = b }
 
--- the message of a turn; `name` is what a stored identifier reads as
-unfoldable pub messageOf : (ℕ → ℕ) → Turn → Message
-messageOf name t =
-    record { comes = true; ssn = t .ssn; ppi = name (firstPpi (t .frags)); size = size (t .frags); position = 0; given = false }
+-- the message of a turn, with the identifier of its first fragment as it was sent
+unfoldable pub messageOf : Turn → Message
+messageOf t =
+    record { comes = true; ssn = t .ssn; ppi = firstPpi (t .frags); size = size (t .frags); position = 0; given = false }
 
 -- "else nothing"; 10: "take buffer .. too short", "message stays queued"; "The message moves to the front of the lent buffer, the rest stays."
-unfoldable pub taken : (ℕ → ℕ) → Queue → List ℕ → Took
-taken name q buffer =
+unfoldable pub taken : Queue → List ℕ → Took
+taken q buffer =
     cond (readable q)
     (cond (ltb (length buffer) (size (turn q .frags))) (took (says (refuse 10) noMessage) q buffer)
-    (took (says none (messageOf name (turn q))) (turn q .queue) (over buffer (joined (turn q .frags)))))
+    (took (says none (messageOf (turn q))) (turn q .queue) (over buffer (joined (turn q .frags)))))
     (took (says none noMessage) q buffer)
 
 -- ── skips ──

@@ -6,7 +6,7 @@ use mathlib.Core.List.{List}
 use lib.Dec.{ltb, eqb}
 use lib.ListN.{length, take, drop}
 use Rattle.wire.specs.Refusal.{none, refuse, Told, says}
-use Rattle.chunk_payload_data.specs.Data.{dataFlags, dataSent, identifierNumber, identifierName}
+use Rattle.chunk_payload_data.specs.Data.{dataFlags, dataSent}
 use Rattle.chunk_payload_data.specs.declared.ChunkPayloadData.{ChunkPayloadData}
 use Rattle.table.specs.Rows.{rowsOf, total}
 use Rattle.table.specs.declared.Row.{Row}
@@ -110,15 +110,11 @@ pub record Read : Type 0 where
 abbrev pub reads : Told Message → State → List ℕ → Read
 reads t s b = record { told = t; state = s; buffer = b }
 
--- an identifier as it is shown: one of the named ones, or 58
-abbrev pub shown : ℕ → ℕ
-shown n = identifierNumber (identifierName n)
-
 abbrev pub layTaken : State → Took → Read
 layTaken s t = reads (t .told) (lay (t .queue) s) (t .buffer)
 
 unfoldable pub read : State → List ℕ → Read
-read s buffer = cond (unsound s) (reads (says (refuse 0) noMessage) s buffer) (layTaken s (taken shown (view s) buffer))
+read s buffer = cond (unsound s) (reads (says (refuse 0) noMessage) s buffer) (layTaken s (taken (view s) buffer))
 
 unfoldable pub forwardOrdered : State → ℕ → After Bool
 forwardOrdered s ssn = soundly false s (after (says none true) (lay (skipOrdered (view s) ssn) s))

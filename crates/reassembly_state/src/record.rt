@@ -12,12 +12,10 @@ pub fn row_of(chunk: ChunkPayloadData, size: usize) -> Row
     ensures { λ r. ⌜ r ≡ row (dataFlags chunk * 16777216 + size) (dataSent chunk .tsn) (dataSent chunk .stream * 65536 + dataSent chunk .ssn) (dataSent chunk .identifier) ⌝ }
 {
     let flags = chunk_payload_data::flags_of(chunk);
-    let payload_type = chunk.payload_type;
-    let ppi = payload_type.to_u32();
     Row {
         head: (flags as u32) * 16777216 + size as u32,
         tsn: chunk.tsn,
         id: (chunk.stream_identifier as u32) * 65536 + chunk.stream_sequence_number as u32,
-        ppi,
+        ppi: chunk.payload_type,
     }
 }

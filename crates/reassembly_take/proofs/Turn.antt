@@ -28,7 +28,7 @@ use Rattle.fragments.proofs.Seen.{while-length}
 use Rattle.fragment_sets.proofs.Seen.{within-cut, complete-cut}
 use Rattle.reassembly_state.specs.Limits.{fragsMost}
 use Rattle.reassembly_state.specs.Model.{Queue, queue, held, endless, readySet, movedOn, Turn, firstSsn, firstPpi, orderedTurn, finishedTurn, turn, throughEnd, readable, Message, noMessage, messageOf, taken}
-use Rattle.reassembly_state.specs.State.{State, count, fragments, view, counts, lay, reads, shown, layTaken}
+use Rattle.reassembly_state.specs.State.{State, count, fragments, view, counts, lay, reads, layTaken}
 use Rattle.reassembly_state.specs.Rows.{firstOrdered, orderedRows, InTurn, withoutMessage}
 use Rattle.reassembly_state.specs.declared.Counts.{Counts}
 use Rattle.reassembly_state.proofs.Parts.{drop-take, gone-first, gone-last}
@@ -313,23 +313,23 @@ module _ (s : State) (k : Sound s) (full : length (s .rows) ≡ fragsMost) (t : 
   comes h = readable-is ∙ lt-ltb (t .from) (t .to) (omega arith)
 
   module _ (buffer : List ℕ) where
-    pub takes-nothing : many ≡ 0 → layTaken s (taken shown (view s) buffer) ≡ reads (says none noMessage) s buffer
+    pub takes-nothing : many ≡ 0 → layTaken s (taken (view s) buffer) ≡ reads (says none noMessage) s buffer
     unfolding taken
     takes-nothing e = rw (readable-is ∙ le-ltb (t .from) (t .to) (omega arith), lay-own s k full)
 
-    pub takes-none : 0 < many → length buffer < bytes → layTaken s (taken shown (view s) buffer) ≡ reads (says (refuse 10) noMessage) s buffer
+    pub takes-none : 0 < many → length buffer < bytes → layTaken s (taken (view s) buffer) ≡ reads (says (refuse 10) noMessage) s buffer
     unfolding taken
     takes-none h l = rw (comes h, message-size, lt-ltb (length buffer) bytes l, lay-own s k full)
 
     -- the calls' answers: the row of its first fragment, the places of its bytes, the message in hand, and what is left of each
     pub takes-whole : (r : Row) (off n : ℕ) (m : Message) (q : Counts) (rows : List Row) (pool out : List ℕ)
         → 0 < many → r ≡ row → off ≡ B (take (t .from) (s .rows)) → n ≡ bytes → n ≤ length buffer
-        → m ≡ record { comes = true; ssn = cond (eqb (c .finished) 0) (r .id % 65536) 0; ppi = shown (r .ppi); size = n; position = 0; given = false }
+        → m ≡ record { comes = true; ssn = cond (eqb (c .finished) 0) (r .id % 65536) 0; ppi = r .ppi; size = n; position = 0; given = false }
         → q ≡ withoutMessage c many n (r .id % 65536)
         → rows ≡ layRows (gone (t .from) many (fragments s)) (s .rows)
         → pool ≡ layBytes (gone (t .from) many (fragments s)) (s .pool)
         → out ≡ over buffer (take (off + n - off) (drop off (s .pool)))
-        → reads (says none m) (record { queue = q; rows = rows; pool = pool }) out ≡ layTaken s (taken shown (view s) buffer)
+        → reads (says none m) (record { queue = q; rows = rows; pool = pool }) out ≡ layTaken s (taken (view s) buffer)
     unfolding taken lay messageOf
     takes-whole r off n m q rows pool out h is-r is-off is-n l is-m is-q is-rows is-pool is-out =
         let x = left h in

@@ -8,10 +8,9 @@ ghost use lib.ListN.{length, take};
 ghost use Rattle.chunks.specs.Message.{flagTold};
 ghost use Rattle.reassembly_state.specs.Limits.{fragsMost};
 ghost use Rattle.reassembly_state.specs.Model.{readySet, taken};
-ghost use Rattle.reassembly_state.specs.State.{stateOf, unsound, count, view, isReadable, reads, read, shown, layTaken};
+ghost use Rattle.reassembly_state.specs.State.{stateOf, unsound, count, view, isReadable, reads, read, layTaken};
 ghost use Rattle.reassembly_state.specs.Rows.{InTurn, withoutMessage};
 ghost use Rattle.reassembly_state.specs.Answers.{messageHeld, tookTold};
-use chunk_payload_data::PayloadProtocolIdentifier;
 use chunks::Chunks;
 use chunks::Flag;
 use loose_fragments::Span;
@@ -88,7 +87,7 @@ fn without(queue: Counts, k: usize, bytes: usize, ssn: u16) -> Counts
 
 // The message in hand, of so many bytes: an unordered one has SSN 0.
 fn in_hand(ordered: bool, ssn: u16, ppi: u32, size: usize) -> Chunks
-    ensures { λ r. ⌜ messageHeld r ≡ record { comes = true; ssn = cond ordered ssn 0; ppi = shown ppi; size = size; position = 0; given = false } ⌝ }
+    ensures { λ r. ⌜ messageHeld r ≡ record { comes = true; ssn = cond ordered ssn 0; ppi = ppi; size = size; position = 0; given = false } ⌝ }
 {
     let mut number: u16 = 0;
     if ordered {
@@ -96,7 +95,7 @@ fn in_hand(ordered: bool, ssn: u16, ppi: u32, size: usize) -> Chunks
     }
     Chunks {
         ssn: number,
-        ppi: PayloadProtocolIdentifier::from_u32(ppi),
+        ppi,
         size,
         position: 0,
         given: false,
@@ -107,7 +106,7 @@ fn in_hand(ordered: bool, ssn: u16, ppi: u32, size: usize) -> Chunks
 fn take(queue: Counts, table: &mut [u32], pool: &mut [u8], buffer: &mut [u8]) -> Taken
     requires { ⌜ length (now table) ≡ 4 * fragsMost ⌝ }
     requires { ⌜ unsound (stateOf queue (now table) (now pool)) ≡ false ⌝ }
-    ensures { λ r. ⌜ reads (tookTold (r .answer)) (stateOf (r .queue) (now (table .exit)) (now (pool .exit))) (now (buffer .exit)) ≡ layTaken (stateOf queue (now (table .entry)) (now (pool .entry))) (taken shown (view (stateOf queue (now (table .entry)) (now (pool .entry)))) (now (buffer .entry))) ⌝ }
+    ensures { λ r. ⌜ reads (tookTold (r .answer)) (stateOf (r .queue) (now (table .exit)) (now (pool .exit))) (now (buffer .exit)) ≡ layTaken (stateOf queue (now (table .entry)) (now (pool .entry))) (taken (view (stateOf queue (now (table .entry)) (now (pool .entry)))) (now (buffer .entry))) ⌝ }
 {
     let turn = in_turn(queue, table);
     let from = turn.from;

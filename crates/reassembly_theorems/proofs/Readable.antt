@@ -10,7 +10,7 @@ use Rattle.wire.specs.Refusal.{none, refuse, Told, says}
 use Rattle.fragments.specs.Words.{size}
 use Rattle.reassembly_state.specs.Limits.{fragsMost}
 use Rattle.reassembly_state.specs.Model.{turn, readable, noMessage, messageOf, taken}
-use Rattle.reassembly_state.specs.State.{State, unsound, view, isReadable, reads, shown, layTaken, read}
+use Rattle.reassembly_state.specs.State.{State, unsound, view, isReadable, reads, layTaken, read}
 use Rattle.reassembly_theorems.proofs.Views.{laid-as-seen}
 
 module _ (s : State) (e : unsound s ≡ false) where
@@ -23,7 +23,7 @@ module _ (s : State) (e : unsound s ≡ false) where
   so r = ap (λ (t : Told Bool). t .values) (sym readable-told ∙ r)
 
   module _ (buffer : List ℕ) where
-    read-is : read s buffer ≡ layTaken s (taken shown (view s) buffer)
+    read-is : read s buffer ≡ layTaken s (taken (view s) buffer)
     unfolding read
     read-is = rw e
 
@@ -52,6 +52,6 @@ module _ (s : State) (e : unsound s ≡ false) where
     unfolding taken messageOf
     comes-as-told h = rw (read-is, readable-told) (go (readable (view s)) refl)
       where
-        go : (b : Bool) → readable (view s) ≡ b → taken shown (view s) buffer .told .values .comes ≡ b
+        go : (b : Bool) → readable (view s) ≡ b → taken (view s) buffer .told .values .comes ≡ b
         go true r = rw (r, le-ltb (length buffer) needed h)
         go false r = rw r

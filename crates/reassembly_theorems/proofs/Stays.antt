@@ -20,7 +20,7 @@ use Rattle.loose_fragments.specs.Loose.{reach}
 use Rattle.fragments.proofs.Pool.{Fit, fit-cut, joined-length}
 use Rattle.reassembly_state.specs.Limits.{fragsMost, bytesMost}
 use Rattle.reassembly_state.specs.Model.{Queue, held, Given, roomFor, keepOrdered, keepLoose, pushOrdered, pushUnordered, push, turn, readable, Took, taken, skipOrdered, skipUnordered}
-use Rattle.reassembly_state.specs.State.{State, fragments, unsound, view, lay, fragmentOf, pushed, shown, read, forwardOrdered, forwardUnordered, numBytes}
+use Rattle.reassembly_state.specs.State.{State, fragments, unsound, view, lay, fragmentOf, pushed, read, forwardOrdered, forwardUnordered, numBytes}
 use Rattle.reassembly_queue.specs.Queue.{stateOf, fresh}
 use Rattle.reassembly_state.proofs.Laws.{Sound, sound, held-view, fragments-length, size-held}
 use Rattle.reassembly_state.proofs.Laid.{sound-lay}
@@ -45,9 +45,9 @@ module _ {n : ℕ} {q : Queue} (g : Good n q) where
   no-more : (m : Queue) → Within (held q) (held m) → Good n m
   no-more m w = record { fit = w .fits (g .fit); few = omega (arith, w .few, g .few); small = omega (arith, w .small, g .small) }
 
-  pub taken-good : (name : ℕ → ℕ) (buffer : List ℕ) → Good n (taken name q buffer .queue)
+  pub taken-good : (buffer : List ℕ) → Good n (taken q buffer .queue)
   unfolding taken
-  taken-good name buffer =
+  taken-good buffer =
       choose (λ (t : Took). Good n (t .queue)) (readable q)
       (λ e. choose (λ (t : Took). Good n (t .queue)) (ltb (length buffer) (size (turn q .frags))) (λ f. g) (no-more (turn q .queue) (turn-within q)))
       g
@@ -124,7 +124,7 @@ module _ (s : State) (e : unsound s ≡ false) (full : length (s .rows) ≡ frag
 
   pub read-keeps : (buffer : List ℕ) → Stays s (read s buffer .state)
   unfolding read
-  read-keeps buffer = rw e (stays-laid _ (taken-good good-view shown buffer))
+  read-keeps buffer = rw e (stays-laid _ (taken-good good-view buffer))
 
   pub ordered-keeps : (ssn : ℕ) → Stays s (forwardOrdered s ssn .state)
   unfolding forwardOrdered

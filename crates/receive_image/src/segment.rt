@@ -1,7 +1,6 @@
 // A small image, cut into segments of eight bytes, each of which goes into a DATA chunk; and the order in which they arrive.
 use chunk::Marshalled;
 use chunk_payload_data::ChunkPayloadData;
-use chunk_payload_data::PayloadProtocolIdentifier;
 
 pub const STREAM: u16 = 7;
 
@@ -10,6 +9,9 @@ pub const LARGEST: u32 = 4096;
 
 // The TSN of the first segment. The fifth one's is 0: TSNs wrap.
 pub const FIRST: u32 = 4294967292;
+
+// The payload identifier of the image: the loader's own, a number without a name.
+const LOADER: u32 = 1280262468;
 
 const IMAGE: [u8; 48] = *b"BOOT 001CLOCK 02GYRO 003STAR 004RADIO 05LOADER 6";
 
@@ -35,7 +37,7 @@ fn fields(i: u32) -> ChunkPayloadData {
         tsn: std::num::wrapping_add_u32(FIRST, i),
         stream_identifier: STREAM,
         stream_sequence_number: 0,
-        payload_type: PayloadProtocolIdentifier::Binary,
+        payload_type: LOADER,
     }
 }
 

@@ -8,7 +8,6 @@ ghost use Rattle.sctp_receive_result.specs.Result.{told};
 ghost use Rattle.sctp_receive_model.specs.Fields.{chunkFrom, valuesFrom};
 ghost use Rattle.sctp_receive_result.specs.Places.{span, userSpan};
 use chunk_payload_data::ChunkPayloadData;
-use chunk_payload_data::PayloadProtocolIdentifier;
 use chunk_payload_data::Unmarshalled;
 
 // The fields of the DATA chunk that the lent bytes begin with; 1 2 3 4 15.
@@ -44,8 +43,7 @@ pub extern "C" fn sctp_receive_data_unmarshal(
             *tsn = p.tsn;
             *stream_identifier = p.stream_identifier;
             *stream_sequence_number = p.stream_sequence_number;
-            let name = p.payload_type;
-            *payload_type = name.to_u32();
+            *payload_type = p.payload_type;
             -1
         }
         Unmarshalled::Refused(k) => k as i32,
@@ -81,7 +79,6 @@ pub extern "C" fn sctp_receive_data_marshal_to(
 ) -> i32
     ensures { λ r. ⌜ written (told r (now (n .exit))) (now (out .exit)) ≡ dataWritten (chunkFrom unordered «beginning_fragment» «ending_fragment» «immediate_sack» tsn «stream_identifier» «stream_sequence_number» «payload_type») (now (user .entry)) (now (out .entry)) ⌝ }
 {
-    let name = PayloadProtocolIdentifier::from_u32(payload_type);
     let fields = ChunkPayloadData {
         unordered,
         beginning_fragment,
@@ -90,7 +87,7 @@ pub extern "C" fn sctp_receive_data_marshal_to(
         tsn,
         stream_identifier,
         stream_sequence_number,
-        payload_type: name,
+        payload_type,
     };
     let answer = chunk_payload_data::marshal_to(out, fields, user);
     sctp_receive_codecs::marshalled(answer, n)

@@ -9,7 +9,6 @@ ghost use Rattle.sctp_receive_result.specs.Result.{told, done};
 ghost use Rattle.sctp_receive_model.specs.Fields.{chunkFrom};
 ghost use Rattle.sctp_receive_model.specs.States.{fragmentCounts, stateFrom, messageFrom};
 use chunk_payload_data::ChunkPayloadData;
-use chunk_payload_data::PayloadProtocolIdentifier;
 use reassembly_queue::ReassemblyQueue;
 use reassembly_queue::WORDS;
 
@@ -76,7 +75,6 @@ pub extern "C" fn sctp_receive_reassembly_queue_push(
         ordered: *ordered,
         n_bytes: *n_bytes,
     };
-    let name = PayloadProtocolIdentifier::from_u32(payload_type);
     let chunk = ChunkPayloadData {
         unordered: is_unordered,
         beginning_fragment,
@@ -85,7 +83,7 @@ pub extern "C" fn sctp_receive_reassembly_queue_push(
         tsn,
         stream_identifier,
         stream_sequence_number,
-        payload_type: name,
+        payload_type,
     };
     let pushed = queue.push(table, pool, chunk, user_data);
     let left = pushed.queue;

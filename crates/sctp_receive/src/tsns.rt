@@ -8,7 +8,6 @@ ghost use Rattle.sctp_receive_result.specs.Result.{told, done};
 ghost use Rattle.sctp_receive_model.specs.Fields.{chunkFrom, valuesFrom, foundFrom};
 ghost use Rattle.sctp_receive_model.specs.States.{tsnCounts, tsnsFrom, handedFrom};
 use chunk_payload_data::ChunkPayloadData;
-use chunk_payload_data::PayloadProtocolIdentifier;
 use payload_queue::Done;
 use payload_queue::LOG;
 use payload_queue::PayloadQueue;
@@ -69,7 +68,6 @@ pub extern "C" fn sctp_receive_payload_queue_push(
 ) -> i32
     ensures { λ r. ⌜ after (told r (now (is .exit))) (tsnsFrom (now (count .exit)) (now («n_bytes» .exit)) (now (dups .exit)) (now («dup_tsn» .exit)) (now (table .exit))) ≡ pushed (tsnsFrom (now (count .entry)) (now («n_bytes» .entry)) (now (dups .entry)) (now («dup_tsn» .entry)) (now (table .entry))) (rowOf (chunkFrom unordered «beginning_fragment» «ending_fragment» «immediate_sack» tsn «stream_identifier» «stream_sequence_number» «payload_type») size) cumulative ⌝ }
 {
-    let name = PayloadProtocolIdentifier::from_u32(payload_type);
     let chunk = ChunkPayloadData {
         unordered,
         beginning_fragment,
@@ -78,7 +76,7 @@ pub extern "C" fn sctp_receive_payload_queue_push(
         tsn,
         stream_identifier,
         stream_sequence_number,
-        payload_type: name,
+        payload_type,
     };
     sctp_receive_tsns::push(
         count,

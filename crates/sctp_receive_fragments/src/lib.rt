@@ -5,7 +5,6 @@ ghost use Rattle.chunks.specs.Message.{flagTold, numberTold, pieceTold};
 ghost use Rattle.reassembly_state.specs.Answers.{tookTold, doneTold};
 ghost use Rattle.sctp_receive_result.specs.Result.{told, back, done};
 ghost use Rattle.sctp_receive_model.specs.States.{fragmentCounts, messageFrom, handFrom, pieceFrom};
-use chunk_payload_data::PayloadProtocolIdentifier;
 use chunks::Chunks;
 use chunks::Flag;
 use chunks::Number;
@@ -42,7 +41,7 @@ pub fn hand(bytes: usize, position: usize, given: bool) -> Chunks
 {
     Chunks {
         ssn: 0,
-        ppi: PayloadProtocolIdentifier::Unknown,
+        ppi: 0,
         size: bytes,
         position,
         given,
@@ -120,10 +119,9 @@ pub fn taken(
     *given = false;
     match answer {
         Took::Message(m) => {
-            let name = m.ppi;
             *found = true;
             *ssn = m.ssn;
-            *ppi = name.to_u32();
+            *ppi = m.ppi;
             *bytes = m.size;
             *position = m.position;
             *given = m.given;

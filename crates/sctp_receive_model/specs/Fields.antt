@@ -2,11 +2,11 @@
 -- Assumes nothing.
 use Prim.Native.Nat.{ℕ}
 use mathlib.Core.Bool.{Bool}
-use Rattle.chunk_payload_data.specs.Data.{identifierName, DataValues}
+use Rattle.chunk_payload_data.specs.Data.{DataValues}
 use Rattle.chunk_payload_data.specs.declared.ChunkPayloadData.{ChunkPayloadData}
 use Rattle.payload_model.specs.Queue.{Found}
 
--- a chunk that C hands in: U, B, E, immediate, TSN, stream, SSN, and the identifier by its number
+-- a chunk that C hands in: U, B, E, immediate, TSN, stream, SSN, identifier
 abbrev pub chunkFrom : Bool → Bool → Bool → Bool → ℕ → ℕ → ℕ → ℕ → ChunkPayloadData
 chunkFrom u b e i tsn stream ssn identifier =
     record {
@@ -17,7 +17,7 @@ chunkFrom u b e i tsn stream ssn identifier =
       tsn = tsn;
       «stream_identifier» = stream;
       «stream_sequence_number» = ssn;
-      «payload_type» = identifierName identifier;
+      «payload_type» = identifier;
     }
 
 -- the values that C is given, in the same order

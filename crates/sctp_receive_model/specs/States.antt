@@ -3,7 +3,6 @@
 use Prim.Native.Nat.{ℕ}
 use mathlib.Core.Bool.{Bool}
 use mathlib.Core.List.{List}
-use Rattle.chunk_payload_data.specs.declared.PayloadProtocolIdentifier.the-variants.{Unknown}
 use Rattle.payload_model.specs.Queue.{Queue, Last, Handed}
 use Rattle.payload_queue.specs.Queue.{queueOf}
 use Rattle.payload_queue.specs.declared.PayloadQueue.{PayloadQueue}
@@ -50,7 +49,7 @@ messageFrom found ssn ppi size position given =
 
 -- its number of bytes, the place of the next piece, and whether an empty message's one piece was given; its SSN and its identifier play no part in its calls, and C keeps them to itself
 abbrev pub handFrom : ℕ → ℕ → Bool → Chunks
-handFrom size position given = record { ssn = 0; ppi = Unknown; size = size; position = position; given = given }
+handFrom size position given = record { ssn = 0; ppi = 0; size = size; position = position; given = given }
 
 -- a piece, if one comes: its place in the buffer
 abbrev pub pieceFrom : Bool → ℕ → ℕ → Place

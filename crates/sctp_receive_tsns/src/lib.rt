@@ -155,8 +155,7 @@ pub fn taken(
             *tsn = p.tsn;
             *stream_identifier = p.stream_identifier;
             *stream_sequence_number = p.stream_sequence_number;
-            let name = p.payload_type;
-            *payload_type = name.to_u32();
+            *payload_type = p.payload_type;
             *size = q.size;
             -1
         }

@@ -13,20 +13,22 @@ use Rattle.chunk_payload_data.specs.Layout.{Data, DataFits, dataValue}
 use Rattle.chunk_payload_data.specs.Data.{DataFront}
 use Rattle.chunk_selective_ack.specs.Layout.{sack, sackValue, block, blockBytes}
 use Rattle.chunk_selective_ack.specs.Sack.{SackFront, BlockFront, TsnFront}
-use Rattle.sheet.specs.Sheet.{p2-bytes, p4-bytes, p5-blocks, p5-duplicates, p5-bytes}
+use Rattle.sheet.specs.Sheet.{p2-bytes, p3-bytes, p4-bytes, p5-blocks, p5-duplicates, p5-bytes}
 
--- ── DATA: P2's fields, with a length ──
+-- ── DATA: P2's fields, with a length and an identifier ──
 
-abbrev data-head : ℕ → Headed Data
-data-head size = record { header = header 0 3 size; fields = record { tsn = 10; stream = 2; ssn = 5; identifier = 51 } }
+abbrev data-head : ℕ → ℕ → Headed Data
+data-head size identifier = record { header = header 0 3 size; fields = record { tsn = 10; stream = 2; ssn = 5; identifier = identifier } }
 
-abbrev data-front : (size : ℕ) (raw : List ℕ) → size < 2 ^ 16 → take 16 raw ≡ take (length raw) (headedBytes dataValue (data-head size)) → DataFront raw
-data-front size raw h e =
+abbrev data-front : (size identifier : ℕ) (raw : List ℕ) → size < 2 ^ 16 → identifier < 2 ^ 32
+    → take 16 raw ≡ take (length raw) (headedBytes dataValue (data-head size identifier))
+    → DataFront raw
+data-front size identifier raw h i e =
     record {
-      fields = data-head size;
+      fields = data-head size identifier;
       fits = record {
         header = record { kind = omega arith; flags = omega arith; size = h };
-        fields = record { tsn = omega arith; stream = omega arith; ssn = omega arith; identifier = omega arith };
+        fields = record { tsn = omega arith; stream = omega arith; ssn = omega arith; identifier = i };
       };
       begins = e;
     }
@@ -37,15 +39,19 @@ head-of f = header-front dataValue DataFits 12 f
 
 unfoldable pub front-2 : DataFront p2-bytes
 unfolding bigEndian headerBytes dataValue
-front-2 = data-front 19 p2-bytes (omega arith) refl
+front-2 = data-front 19 51 p2-bytes (omega arith) (omega arith) refl
+
+unfoldable pub front-3 : DataFront p3-bytes
+unfolding bigEndian headerBytes dataValue
+front-3 = data-front 19 7 p3-bytes (omega arith) (omega arith) refl
 
 unfoldable pub front-15 : DataFront (p4-bytes 15)
 unfolding bigEndian headerBytes dataValue
-front-15 = data-front 15 (p4-bytes 15) (omega arith) refl
+front-15 = data-front 15 51 (p4-bytes 15) (omega arith) (omega arith) refl
 
 unfoldable pub front-16 : DataFront (p4-bytes 16)
 unfolding bigEndian headerBytes dataValue
-front-16 = data-front 16 (p4-bytes 16) (omega arith) refl
+front-16 = data-front 16 51 (p4-bytes 16) (omega arith) (omega arith) refl
 
 -- ── SACK ──
 

@@ -11,7 +11,7 @@ use Rattle.serial.specs.Serial.{ahead, distance, before}
 use Rattle.serial.specs.Facts.{five-to-three, last-to-zero, zero-to-half}
 use Rattle.chunk.specs.Layout.{headerBytes}
 use Rattle.chunk_payload_data.specs.Layout.{dataValue}
-use Rattle.chunk_payload_data.specs.Data.{identifierName, dataShown, dataRead, userData, dataFlags, dataSent, dataWritten}
+use Rattle.chunk_payload_data.specs.Data.{dataShown, dataRead, userData, dataFlags, dataSent, dataWritten}
 use Rattle.chunk_selective_ack.specs.Layout.{sackValue, blockBytes, gapBlocks, duplicateTsns}
 use Rattle.chunk_selective_ack.specs.Sack.{sackRead, blocksPart, duplicatesPart, sackWritten}
 use Rattle.moves.specs.Lists.{put}
@@ -29,7 +29,7 @@ use Rattle.reassembly_state.specs.State.{fragmentOf}
 use Rattle.sheet.specs.Table.{AllHold}
 use Rattle.sheet.specs.Words.{room}
 use Rattle.sheet.specs.Sheet.{sheet, SheetHolds}
-use Rattle.sheet.proofs.Fronts.{head-of, front-2, front-15, front-16, front-5, block-0, block-1, duplicate-0}
+use Rattle.sheet.proofs.Fronts.{head-of, front-2, front-3, front-15, front-16, front-5, block-0, block-1, duplicate-0}
 use Rattle.sheet.proofs.Steps.{new-holds, push-told, read-told, read-buffer, read-holds}
 use Rattle.sheet.proofs.Reassembled.{holds-9, holds-1, holds-13, holds-132}
 
@@ -43,7 +43,7 @@ module _ (lent : RefT (List ℕ)) (tsns words pool : List ℕ) (w : length words
   p12 = (refl, (refl, tt))
 
   p11 : From 27
-  unfolding push pushOrdered keepOrdered stored grownSet joins placed any complete rises setOf while past size joined ahead distance before roomFor fragmentOf dataFlags dataSent turn orderedTurn readySet readable firstSsn firstPpi messageOf taken identifierName over
+  unfolding push pushOrdered keepOrdered stored grownSet joins placed any complete rises setOf while past size joined ahead distance before roomFor fragmentOf dataFlags dataSent turn orderedTurn readySet readable firstSsn firstPpi messageOf taken over
   p11 =
       let new = new-holds 0 words pool w h in
       let after-1 = holds-1 lent tsns words pool w h in
@@ -72,15 +72,15 @@ module _ (lent : RefT (List ℕ)) (tsns words pool : List ℕ) (w : length words
   p5 = (refl, (λ r p. p front-5, (λ r p. p front-5, (λ r p. p block-0, (λ r p. p block-1, (λ r p. p front-5, (λ r p. p duplicate-0, p6-p7-p8)))))))
 
   p4 : From 8
-  unfolding front-15 front-16 dataRead dataShown identifierName userData
+  unfolding front-15 front-16 dataRead dataShown userData
   p4 = (λ r p. p front-15, (λ r p. p (head-of front-15), (λ r p. p front-16, (λ r p. p (head-of front-16), p5))))
 
   p3 : From 6
-  unfolding identifierName
-  p3 = (refl, (refl, p4))
+  unfolding front-3 dataRead dataShown dataWritten dataFlags dataSent bigEndian headerBytes dataValue over
+  p3 = (λ r p. p front-3, (refl, p4))
 
   p2 : From 3
-  unfolding front-2 dataRead dataShown identifierName userData dataWritten dataFlags dataSent bigEndian headerBytes dataValue over
+  unfolding front-2 dataRead dataShown userData dataWritten dataFlags dataSent bigEndian headerBytes dataValue over
   p2 = (refl, (λ r p. p front-2, (λ r p. p (head-of front-2), p3)))
 
   p1 : From 0

@@ -14,7 +14,7 @@ use Rattle.fragments.specs.Pool.{cut}
 use Rattle.fragments.proofs.Pool.{Fit}
 use Rattle.reassembly_state.specs.Limits.{fragsMost, bytesMost}
 use Rattle.reassembly_state.specs.Model.{Queue, queue, held, Given, roomFor, push, taken}
-use Rattle.reassembly_state.specs.State.{State, unsound, view, laid, After, fragmentOf, pushed, Read, shown, layTaken, read}
+use Rattle.reassembly_state.specs.State.{State, unsound, view, laid, After, fragmentOf, pushed, Read, layTaken, read}
 use Rattle.reassembly_theorems.proofs.Views.{seen-as-laid}
 use Rattle.reassembly_theorems.proofs.Stays.{push-keeps, read-keeps}
 use Rattle.sheet.specs.Words.{expecting}
@@ -48,17 +48,17 @@ module _ {s : State} {m : Queue} (h : Holds s m) where
       let k = push-keeps s (h .sound) (h .rows) p bytes in
       record { sound = k .sound; rows = k .rows; seen = ap (λ (a : After Bool). view (a .state)) (push-is p bytes) ∙ seen-as-laid _ s fit }
 
-  read-is : (buffer : List ℕ) → read s buffer ≡ layTaken s (taken shown m buffer)
+  read-is : (buffer : List ℕ) → read s buffer ≡ layTaken s (taken m buffer)
   unfolding read
   read-is buffer = rw (h .sound, h .seen)
 
-  pub read-told : (buffer : List ℕ) → read s buffer .told ≡ taken shown m buffer .told
+  pub read-told : (buffer : List ℕ) → read s buffer .told ≡ taken m buffer .told
   read-told buffer = ap (λ (r : Read). r .told) (read-is buffer)
 
-  pub read-buffer : (buffer : List ℕ) → read s buffer .buffer ≡ taken shown m buffer .buffer
+  pub read-buffer : (buffer : List ℕ) → read s buffer .buffer ≡ taken m buffer .buffer
   read-buffer buffer = ap (λ (r : Read). r .buffer) (read-is buffer)
 
-  pub read-holds : (buffer : List ℕ) → Fit (held (taken shown m buffer .queue)) → Holds (read s buffer .state) (taken shown m buffer .queue)
+  pub read-holds : (buffer : List ℕ) → Fit (held (taken m buffer .queue)) → Holds (read s buffer .state) (taken m buffer .queue)
   read-holds buffer fit =
       let k = read-keeps s (h .sound) (h .rows) buffer in
       record { sound = k .sound; rows = k .rows; seen = ap (λ (r : Read). view (r .state)) (read-is buffer) ∙ seen-as-laid _ s fit }

@@ -10,9 +10,8 @@ use lib.ListN.{length}
 use denote.Ref.{RefT}
 use Rattle.wire.specs.Refusal.{none, refuse, says, written}
 use Rattle.serial.specs.Serial.{distance}
-use Rattle.chunk_payload_data.specs.Data.{DataValues, noData, identifierName, identifierNumber, dataWritten}
+use Rattle.chunk_payload_data.specs.Data.{DataValues, noData, dataWritten}
 use Rattle.chunk_payload_data.specs.declared.ChunkPayloadData.{ChunkPayloadData}
-use Rattle.chunk_payload_data.specs.declared.PayloadProtocolIdentifier.the-variants.{String, Unknown}
 use Rattle.chunk_selective_ack.specs.Layout.{sack, block}
 use Rattle.chunk_selective_ack.specs.Sack.{sackWritten}
 use Rattle.payload_queue.specs.Queue.{queueOf, fresh}
@@ -52,9 +51,9 @@ use Rattle.sheet.specs.Words.{
 abbrev pub abc : List ℕ
 abc = 0x61 ∷ 0x62 ∷ 0x63 ∷ []
 
--- "DATA, B and E, TSN 10, stream 2, SSN 5, identifier 51": as it is given to the writer, and as the reader tells it
-abbrev pub p2-fields : ChunkPayloadData
-p2-fields =
+-- "DATA, B and E, TSN 10, stream 2, SSN 5", with this identifier: as it is given to the writer, and as the reader tells it
+abbrev pub fields : ℕ → ChunkPayloadData
+fields identifier =
     record {
       unordered = false;
       «beginning_fragment» = true;
@@ -63,15 +62,19 @@ p2-fields =
       tsn = 10;
       «stream_identifier» = 2;
       «stream_sequence_number» = 5;
-      «payload_type» = String;
+      «payload_type» = identifier;
     }
 
-abbrev pub p2-values : DataValues
-p2-values = record { unordered = false; beginning = true; ending = true; immediate = false; tsn = 10; stream = 2; ssn = 5; identifier = 51 }
+abbrev pub values : ℕ → DataValues
+values identifier = record { unordered = false; beginning = true; ending = true; immediate = false; tsn = 10; stream = 2; ssn = 5; identifier = identifier }
 
 abbrev pub p2-bytes : List ℕ
 p2-bytes =
     0x00 ∷ 0x03 ∷ 0x00 ∷ 0x13 ∷ 0x00 ∷ 0x00 ∷ 0x00 ∷ 0x0A ∷ 0x00 ∷ 0x02 ∷ 0x00 ∷ 0x05 ∷ 0x00 ∷ 0x00 ∷ 0x00 ∷ 0x33 ∷ 0x61 ∷ 0x62 ∷ 0x63 ∷ []
+
+-- P2's bytes, with 7 in place of 51
+abbrev pub p3-bytes : List ℕ
+p3-bytes = 0x00 ∷ 0x03 ∷ 0x00 ∷ 0x13 ∷ 0x00 ∷ 0x00 ∷ 0x00 ∷ 0x0A ∷ 0x00 ∷ 0x02 ∷ 0x00 ∷ 0x05 ∷ 0x00 ∷ 0x00 ∷ 0x00 ∷ 0x07 ∷ abc
 
 -- the 16 bytes of P2 ahead of its data, with another length
 abbrev pub p4-bytes : ℕ → List ℕ
@@ -112,12 +115,12 @@ module _ (lent : RefT (List ℕ)) (tsns words pool : List ℕ) where
       ∷ distance 32 4294967295 0 is pos 1
       ∷ distance 32 0 2147483648 is minus 2147483648
       -- P2 DATA, B and E, TSN 10, stream 2, SSN 5, identifier 51, "abc": `00 03 00 13 00 00 00 0A 00 02 00 05 00 00 00 33 61 62 63`.
-      ∷ dataWritten p2-fields abc (room 19) is written (says none 19) p2-bytes
-      ∷ unmarshal-data p2-bytes gives says none p2-values
+      ∷ dataWritten (fields 51) abc (room 19) is written (says none 19) p2-bytes
+      ∷ unmarshal-data p2-bytes gives says none (values 51)
       ∷ user-data lent p2-bytes gives part-from lent 16 abc
-      -- P3 Identifier 7 reads Unknown, is written 58.
-      ∷ identifierName 7 is Unknown
-      ∷ identifierNumber (identifierName 7) is 58
+      -- P3 Identifier 7 reads as 7 and is written as 7 (document 02, M-101).
+      ∷ unmarshal-data p3-bytes gives says none (values 7)
+      ∷ dataWritten (fields 7) abc (room 19) is written (says none 19) p3-bytes
       -- P4 DATA length 15: 4. Length 16, which has no data: 15 (document 02, M-104).
       ∷ unmarshal-data (p4-bytes 15) gives says (refuse 4) noData
       ∷ user-data lent (p4-bytes 15) gives no-part lent 4

@@ -12,7 +12,6 @@ use Rattle.chunk.specs.Header.{HeaderFront}
 use Rattle.chunk.specs.Part.{Part}
 use Rattle.chunk_payload_data.specs.Data.{DataValues, dataTold, DataFront, dataRead, userData}
 use Rattle.chunk_payload_data.specs.declared.ChunkPayloadData.{ChunkPayloadData}
-use Rattle.chunk_payload_data.specs.declared.PayloadProtocolIdentifier.the-variants.{String}
 use Rattle.chunk_payload_data.specs.declared.Unmarshalled as datas
 use Rattle.chunk_selective_ack.specs.Layout.{Sack, Block}
 use Rattle.chunk_selective_ack.specs.Sack.{sackTold, SackFront, sackRead, blocksPart, duplicatesPart, BlockFront, blockTold, blockRead, TsnFront, tsnTold, tsnRead}
@@ -112,7 +111,7 @@ chunk u m tsn ssn =
       tsn = tsn;
       «stream_identifier» = 0;
       «stream_sequence_number» = ssn;
-      «payload_type» = String;
+      «payload_type» = 51;
     }
 
 -- by TSN and SSN
@@ -141,7 +140,7 @@ expecting ssn words pool =
 
 -- a message of n bytes, just taken
 abbrev pub message : ℕ → Chunks
-message n = record { ssn = 0; ppi = String; size = n; position = 0; given = false }
+message n = record { ssn = 0; ppi = 51; size = n; position = 0; given = false }
 
 -- the answers of so many calls of the piece reader, one after the other
 abbrev pub pieces : ℕ → Chunks → List ℕ → ℕ → List (Told Place)

@@ -1,7 +1,6 @@
 // Reassembly: fragments of one stream arrive.
 use crate::show;
 use chunk_payload_data::ChunkPayloadData;
-use chunk_payload_data::PayloadProtocolIdentifier;
 use chunks::Chunks;
 use reassembly_queue::BYTES;
 use reassembly_queue::ReassemblyQueue;
@@ -18,7 +17,7 @@ fn ordered(b: bool, e: bool, tsn: u32, ssn: u16) -> ChunkPayloadData {
         tsn,
         stream_identifier: 0,
         stream_sequence_number: ssn,
-        payload_type: PayloadProtocolIdentifier::String,
+        payload_type: 51,
     }
 }
 

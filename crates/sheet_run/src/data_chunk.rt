@@ -1,11 +1,10 @@
-// DATA: P2 is written and what was written is read; P4 is P2 with another length.
+// DATA: P2 is written and what was written is read; P3 is P2 with another identifier, P4 with another length.
 use crate::show;
 use chunk::Marshalled;
 use chunk_payload_data::ChunkPayloadData;
-use chunk_payload_data::PayloadProtocolIdentifier;
 use chunk_payload_data::Unmarshalled;
 
-fn fields() -> ChunkPayloadData {
+fn fields(identifier: u32) -> ChunkPayloadData {
     ChunkPayloadData {
         unordered: false,
         beginning_fragment: true,
@@ -14,13 +13,13 @@ fn fields() -> ChunkPayloadData {
         tsn: 10,
         stream_identifier: 2,
         stream_sequence_number: 5,
-        payload_type: PayloadProtocolIdentifier::String,
+        payload_type: identifier,
     }
 }
 
 pub fn p2() {
     let mut out = [0u8; 19];
-    let answer = chunk_payload_data::marshal_to(&mut out, fields(), b"abc");
+    let answer = chunk_payload_data::marshal_to(&mut out, fields(51), b"abc");
     print::text(b"P2 ");
     read(&out);
     print::text(b": ");
@@ -56,14 +55,32 @@ fn flags(f: ChunkPayloadData) {
 }
 
 fn numbers(f: ChunkPayloadData) {
-    let payload_type = f.payload_type;
     let tsn = f.tsn as u64;
     let stream = f.stream_identifier as u64;
     let ssn = f.stream_sequence_number as u64;
     print::filled(
         b", TSN %, stream %, SSN %, identifier %, ",
-        [tsn, stream, ssn, payload_type.to_u32() as u64],
+        [tsn, stream, ssn, f.payload_type as u64],
     );
+}
+
+pub fn p3() {
+    let mut out = [0u8; 19];
+    chunk_payload_data::marshal_to(&mut out, fields(7), b"abc");
+    print::text(b"P3 Identifier 7 reads as ");
+    identifier(b"\x00\x03\x00\x13\x00\x00\x00\x0A\x00\x02\x00\x05\x00\x00\x00\x07abc");
+    print::text(b" and is written as ");
+    identifier(&out);
+    print::text(b".\n");
+}
+
+// Prints the identifier of the chunk that these bytes are.
+fn identifier(raw: &[u8]) {
+    let answer = chunk_payload_data::unmarshal(raw);
+    match answer {
+        Unmarshalled::Refused(k) => show::refused(k),
+        Unmarshalled::Fields(f) => print::number(f.payload_type as u64),
+    }
 }
 
 pub fn p4() {

@@ -1,6 +1,5 @@
 // The message in hand.
 use crate::show;
-use chunk_payload_data::PayloadProtocolIdentifier;
 use chunks::Chunks;
 use chunks::Number;
 use chunks::Piece;
@@ -9,7 +8,7 @@ use chunks::Piece;
 fn message(size: usize) -> Chunks {
     Chunks {
         ssn: 0,
-        ppi: PayloadProtocolIdentifier::String,
+        ppi: 51,
         size,
         position: 0,
         given: false,

@@ -1,4 +1,4 @@
-// Runs the bench sheet of document 01 on the code and prints it line by line: what stands behind "is", ":", "gives" and "reads" is what the
+// Runs the bench sheet of document 01 on the code and prints it line by line: what stands behind "is", ":", "gives" and "as" is what the
 // calls answer. Crate `sheet` states the same lines of the definitions.
 mod arrivals;
 mod data_chunk;
@@ -12,7 +12,7 @@ mod show;
 fn main() {
     numbers::p1();
     data_chunk::p2();
-    numbers::p3();
+    data_chunk::p3();
     data_chunk::p4();
     sack_chunk::p5();
     queued::p6();

@@ -1,6 +1,4 @@
-// Numbers that wrap, and identifiers.
-use chunk_payload_data::PayloadProtocolIdentifier;
-
+// Numbers that wrap.
 pub fn p1() {
     print::text(b"P1 Distance 5 to 3 is ");
     shown(serial::tsn_distance(5, 3), -2, b"-2");
@@ -21,21 +19,5 @@ fn shown(got: i64, want: i64, text: &[u8]) {
         print::text(text);
     } else {
         print::text(b"another number");
-    }
-}
-
-pub fn p3() {
-    let read = PayloadProtocolIdentifier::from_u32(7);
-    print::text(b"P3 Identifier 7 reads ");
-    name(read);
-    print::text(b", is written ");
-    print::number(read.to_u32() as u64);
-    print::text(b".\n");
-}
-
-fn name(identifier: PayloadProtocolIdentifier) {
-    match identifier {
-        PayloadProtocolIdentifier::Unknown => print::text(b"Unknown"),
-        _ => print::text(b"a name"),
     }
 }

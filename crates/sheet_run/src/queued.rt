@@ -1,7 +1,6 @@
 // The gap report of three TSNs.
 use crate::show;
 use chunk_payload_data::ChunkPayloadData;
-use chunk_payload_data::PayloadProtocolIdentifier;
 use payload_queue::Flag;
 use payload_queue::Number;
 use payload_queue::PayloadQueue;
@@ -79,7 +78,7 @@ fn whole(tsn: u32) -> ChunkPayloadData {
         tsn,
         stream_identifier: 0,
         stream_sequence_number: 0,
-        payload_type: PayloadProtocolIdentifier::String,
+        payload_type: 51,
     }
 }
 

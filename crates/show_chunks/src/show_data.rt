@@ -25,23 +25,23 @@ fn show_fields(f: ChunkPayloadData) {
     print::flag_line(b"  beginning fragment  ", f.beginning_fragment);
     print::flag_line(b"  ending fragment     ", f.ending_fragment);
     print::flag_line(b"  immediate sack      ", f.immediate_sack);
-    let payload_type = f.payload_type;
+    let identifier = f.payload_type as u64;
     let tsn = f.tsn as u64;
     let stream = f.stream_identifier as u64;
     let ssn = f.stream_sequence_number as u64;
     print::filled(
         b"  TSN                 %\n  stream              %\n  SSN                 %\n  payload identifier  %",
-        [tsn, stream, ssn, payload_type.to_u32() as u64],
+        [tsn, stream, ssn, identifier],
     );
     print::one_of(
         b" (Dcep)\n| (String)\n| (Binary)\n| (StringEmpty)\n| (BinaryEmpty)\n| (Unknown)\n",
-        name(payload_type),
+        name(PayloadProtocolIdentifier::from_u32(f.payload_type)),
     );
 }
 
 // Its place among the names.
-fn name(payload_type: PayloadProtocolIdentifier) -> usize {
-    match payload_type {
+fn name(identifier: PayloadProtocolIdentifier) -> usize {
+    match identifier {
         PayloadProtocolIdentifier::Dcep => 0,
         PayloadProtocolIdentifier::String => 1,
         PayloadProtocolIdentifier::Binary => 2,

@@ -38,14 +38,9 @@ pub fn letters(flags: u8) -> String {
     if set.is_empty() { "-".into() } else { set }
 }
 
-/// A space, and flags, TSN, stream, SSN and the number that is written for the identifier.
+/// A space, and flags, TSN, stream, SSN and identifier.
 pub fn fields(f: &Fields, line: &mut Vec<u8>) {
-    write!(line, " {} {} {} {} {}", letters(f.flags), f.tsn, f.stream, f.ssn, named(f.identifier)).unwrap();
-}
-
-/// The number that is written for an identifier.
-pub fn named(identifier: u32) -> u32 {
-    if [50, 51, 53, 56, 57].contains(&identifier) { identifier } else { 58 }
+    write!(line, " {} {} {} {} {}", letters(f.flags), f.tsn, f.stream, f.ssn, f.identifier).unwrap();
 }
 
 /// A space and a number, for each.

@@ -1,5 +1,6 @@
 //! Which call was answered how, how often; and what must have occurred.
 use crate::Mode;
+use crate::domain::kept;
 use calls::Call;
 use std::collections::BTreeMap;
 
@@ -11,7 +12,7 @@ const EXPECTED: &[(&str, &str, &str)] = &[
     ("TsnDistance", "", "below 0,0,above 0"),
     ("SsnDistance", "", "below 0,0,above 0"),
     ("Header", "header,refused 1,refused 2", ""),
-    ("DataUnmarshal", "data,refused 1,refused 2,refused 3,refused 4", "refused 15"),
+    ("DataUnmarshal", "data,refused 1,refused 2,refused 3,refused 4", "data unnamed,refused 15"),
     ("DataUserData", "part,refused 1,refused 2,refused 3,refused 4", "refused 15"),
     ("DataMarshal", "wrote", "refused 9,refused 10,refused 15"),
     ("SackUnmarshal", "sack,refused 1,refused 2,refused 3,refused 5", ""),
@@ -23,9 +24,9 @@ const EXPECTED: &[(&str, &str, &str)] = &[
     ("PqNew", "done", ""),
     ("PqCanPush", "yes,no", "refused 0"),
     ("PqPush", "yes,no", "refused 0,refused 8"),
-    ("PqPop", "chunk,none", "refused 0"),
+    ("PqPop", "chunk,none", "chunk unnamed,refused 0"),
     ("PqPopUpTo", "done", "refused 0"),
-    ("PqGet", "chunk,none", "refused 0"),
+    ("PqGet", "chunk,none", "chunk unnamed,refused 0"),
     ("PqPopDuplicates", "log", "refused 0"),
     ("PqGapAckBlocks", "blocks", "refused 0,refused 10"),
     ("PqLastTsn", "tsn,none", "refused 0"),
@@ -39,7 +40,7 @@ const EXPECTED: &[(&str, &str, &str)] = &[
     ("RqNew", "done", ""),
     ("RqPush", "yes,no,refused 6", "refused 0,refused 8"),
     ("RqIsReadable", "yes,no", "refused 0"),
-    ("RqRead", "message,none", "refused 0,refused 10"),
+    ("RqRead", "message,none", "message unnamed,refused 0,refused 10"),
     ("RqForwardOrdered", "done", "refused 0"),
     ("RqForwardUnordered", "done", "refused 0"),
     ("RqNumBytes", "number", "refused 0"),
@@ -94,7 +95,8 @@ pub struct Coverage {
     events: BTreeMap<Event, u64>,
 }
 
-/// How an answer is called: its first word, the number of a refusal too; all of the four words, the sign of a distance.
+/// How an answer is called: its first word, the number of a refusal too; all of the four words, the sign of a distance. A chunk or a message whose
+/// identifier the Rust would fold is called unnamed.
 pub fn kind<'a>(call: &Call, line: &'a [u8]) -> &'a [u8] {
     match call {
         Call::Sna32 { .. } | Call::Sna16 { .. } => line,
@@ -103,12 +105,21 @@ pub fn kind<'a>(call: &Call, line: &'a [u8]) -> &'a [u8] {
             [b'-', ..] => b"below 0",
             _ => b"above 0",
         },
+        Call::DataUnmarshal { .. } if line.starts_with(b"data ") && !kept_at(5, line) => b"data unnamed",
+        Call::PqPop { .. } | Call::PqGet { .. } if line.starts_with(b"chunk ") && !kept_at(5, line) => b"chunk unnamed",
+        Call::RqRead { .. } if line.starts_with(b"message ") && !kept_at(2, line) => b"message unnamed",
         _ => {
             let spaces = if line.starts_with(b"refused ") { 1 } else { 0 };
             let end = line.iter().enumerate().filter(|(_, b)| **b == b' ').map(|(i, _)| i).nth(spaces);
             &line[..end.unwrap_or(line.len())]
         }
     }
+}
+
+/// Whether that word of a line is an identifier that the Rust keeps.
+fn kept_at(word: usize, line: &[u8]) -> bool {
+    let number = line.split(|b| *b == b' ').nth(word).and_then(|word| std::str::from_utf8(word).ok());
+    number.and_then(|word| word.parse().ok()).is_some_and(kept)
 }
 
 /// What a mode expects: a call's number, its name, an answer.
@@ -215,5 +226,9 @@ mod tests {
         assert_eq!(kind(&call, b"number 7"), b"number");
         assert_eq!(kind(&Call::TsnDistance { a: 0, b: 0 }, b"-3"), b"below 0");
         assert_eq!(kind(&Call::Sna16 { a: 0, b: 0 }, b"no yes no yes"), b"no yes no yes");
+        assert_eq!([b"data - 1 2 3 58", b"data - 1 2 58 7"].map(|line| kind(&Call::DataUnmarshal { raw: vec![] }, line)), [&b"data"[..], b"data unnamed"]);
+        assert_eq!([b"chunk - 1 2 3 51 7", b"chunk - 1 2 3 52 7"].map(|line| kind(&Call::PqGet { tsn: 1 }, line)), [&b"chunk"[..], b"chunk unnamed"]);
+        let read = Call::RqRead { room: 1, fill: 0 };
+        assert_eq!([&b"message 1 57 1 61"[..], b"message 57 1 1 61", b"none 00"].map(|line| kind(&read, line)), [&b"message"[..], b"message unnamed", b"none"]);
     }
 }

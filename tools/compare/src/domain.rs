@@ -1,5 +1,6 @@
 //! Document 01's domain for equality: the calls on which the Rust and the rules must answer the same; document 02's calls likewise.
 use crate::model::Model;
+use crate::model::codec;
 use crate::model::fault::Wrong;
 use crate::model::forward;
 use crate::model::fragments::{BYTES, FRAGMENTS, Reassembly};
@@ -10,19 +11,19 @@ use calls::{Call, Data, Fields, U};
 const PIECE_MOST: u64 = 1 << 20;
 
 /// Whether a call, made in this state, is inside. What the Rust does not have is not: distances, lookups by index, short buffers, forging.
-/// Nor is DATA without data, which document 02 refuses and the Rust takes.
+/// Nor is DATA without data, which document 02 refuses and the Rust takes, nor a payload identifier that the Rust folds.
 pub fn inside(model: &Model, call: &Call) -> bool {
     match call {
         Call::Sna32 { a, b } => a.wrapping_sub(*b) != 1 << 31,
         Call::Sna16 { a, b } => a.wrapping_sub(*b) != 1 << 15,
-        Call::DataUnmarshal { raw } | Call::DataUserData { raw } => padding_is_0(raw) && !without_data(call),
+        Call::DataUnmarshal { raw } | Call::DataUserData { raw } => padding_is_0(raw) && !without_data(call) && !folded(call),
         Call::Header { raw }
         | Call::SackUnmarshal { raw }
         | Call::SackBlocks { raw }
         | Call::SackDuplicates { raw }
         | Call::FwdUnmarshal { raw }
         | Call::FwdStreams { raw } => padding_is_0(raw),
-        Call::DataMarshal { room, data, .. } => (1..=65_519).contains(&data.size) && *room >= 16 + data.size,
+        Call::DataMarshal { room, fields, data, .. } => writable(*room, *data) && kept(fields.identifier),
         Call::SackMarshal { room, starts, ends, duplicates, .. } => {
             let entries = starts.len() + duplicates.len();
             starts.len() == ends.len() && entries <= 16_379 && *room as usize >= 16 + 4 * entries
@@ -32,9 +33,9 @@ pub fn inside(model: &Model, call: &Call) -> bool {
         }
         Call::PqApplyForward { cumulative, point } => !opposite(*cumulative, *point),
         Call::RqApplyForward { part, cumulative, point } => applied(&model.reassembly, part, *cumulative, *point),
-        Call::PqPush { fields, cumulative, .. } => tsn_push(model, fields.tsn, *cumulative),
+        Call::PqPush { fields, cumulative, .. } => kept(fields.identifier) && tsn_push(model, fields.tsn, *cumulative),
         Call::PqGapAckBlocks { cumulative, starts, ends, .. } => model.tsns.blocks(*cumulative).len() <= (*starts).min(*ends) as usize,
-        Call::RqPush { fields, data } => push(&model.reassembly, fields, *data),
+        Call::RqPush { fields, data } => kept(fields.identifier) && push(&model.reassembly, fields, *data),
         Call::RqRead { room, .. } => fits(&model.reassembly, *room),
         Call::RqForwardOrdered { ssn } => ssns(&model.reassembly, &[*ssn, ssn.wrapping_add(1)]),
         Call::RqForwardUnordered { tsn } => tsns(&model.reassembly, *tsn),
@@ -61,6 +62,27 @@ pub fn without_data(call: &Call) -> bool {
     match call {
         Call::DataUnmarshal { raw } | Call::DataUserData { raw } => raw.len() >= 16 && raw[0] == 0 && raw[2..4] == [0, 16] && padding_is_0(raw),
         Call::DataMarshal { room, data, .. } => data.size == 0 && *room >= 16,
+        _ => false,
+    }
+}
+
+/// The payload identifiers that the Rust keeps: the five that have names, and 58, to which it folds every other.
+pub const KEPT: [u32; 6] = [50, 51, 53, 56, 57, 58];
+
+pub fn kept(identifier: u32) -> bool {
+    KEPT.contains(&identifier)
+}
+
+/// DATA that has data, and room for it.
+fn writable(room: u32, data: Data) -> bool {
+    (1..=65_519).contains(&data.size) && room >= 16 + data.size
+}
+
+/// DATA that is read or written with an identifier that the Rust folds.
+pub fn folded(call: &Call) -> bool {
+    match call {
+        Call::DataUnmarshal { raw } => padding_is_0(raw) && codec::data(raw, Wrong::default()).is_ok_and(|(fields, _)| !kept(fields.identifier)),
+        Call::DataMarshal { room, fields, data, .. } => writable(*room, *data) && !kept(fields.identifier),
         _ => false,
     }
 }
@@ -158,12 +180,30 @@ mod tests {
             (without_data(&call), inside(&Model::new(), &call))
         };
         assert_eq!([read(0, 16, 16, 0), read(0, 16, 19, 0), read(0, 16, 20, 1)], [(true, false); 3]);
-        assert_eq!([read(0, 15, 16, 0), read(0, 16, 15, 0), read(3, 16, 16, 0), read(0, 17, 17, 0)], [(false, true); 4]);
+        assert_eq!([read(0, 15, 16, 0), read(0, 16, 15, 0), read(3, 16, 16, 0)], [(false, true); 3]);
         assert_eq!(read(0, 16, 17, 1), (false, false));
         let write = |size, room| {
-            let call = Call::DataMarshal { room, fill: 0, fields: Fields::default(), data: Data { size, seed: 0 } };
+            let call = Call::DataMarshal { room, fill: 0, fields: Fields { identifier: 51, ..Fields::default() }, data: Data { size, seed: 0 } };
             (without_data(&call), inside(&Model::new(), &call))
         };
         assert_eq!([write(0, 16), write(0, 15), write(1, 17), write(1, 16)], [(true, false), (false, false), (false, true), (false, false)]);
+    }
+
+    #[test]
+    fn identifiers_that_the_rust_folds_are_outside() {
+        let seen = |call: Call| (folded(&call), inside(&Model::new(), &call));
+        let read = |identifier: u32, after: u8| {
+            let raw = [&[0, 3, 0, 17, 0, 0, 0, 10, 0, 2, 0, 5][..], &identifier.to_be_bytes(), &[97, after]].concat();
+            seen(Call::DataUnmarshal { raw })
+        };
+        assert_eq!(KEPT.map(|identifier| read(identifier, 0)), [(false, true); 6]);
+        assert_eq!([7, 49, 52, 59, 51 + (1 << 16), u32::MAX].map(|identifier| read(identifier, 0)), [(true, false); 6]);
+        assert_eq!([read(7, 1), read(51, 1)], [(false, false); 2]);
+        let fields = |identifier| Fields { flags: 3, tsn: 1, stream: 0, ssn: 0, identifier };
+        let data = Data { size: 1, seed: 0 };
+        let write = |identifier, room| seen(Call::DataMarshal { room, fill: 0, fields: fields(identifier), data });
+        assert_eq!([write(51, 17), write(7, 17), write(7, 16)], [(false, true), (true, false), (false, false)]);
+        let pushed = |identifier| [seen(Call::PqPush { fields: fields(identifier), size: 1, cumulative: 0 }), seen(Call::RqPush { fields: fields(identifier), data })];
+        assert_eq!([pushed(58), pushed(7)], [[(false, true); 2], [(false, false); 2]]);
     }
 }

@@ -1,11 +1,12 @@
 //! Differences between the rules and the Rust that docs/DIFFERENCES.md explains, where one call shows them.
-use crate::domain::{padding, without_data};
+use crate::domain::{folded, padding, without_data};
 use crate::model::forward::PAIRS;
 use calls::Call;
 
 /// Number and heading of each.
 pub const ALL: &[(u8, &str)] = &[
     (3, "a length is cut to 16 bits"),
+    (5, "identifiers without a name"),
     (6, "DATA without data"),
     (8, "the distance half way"),
     (9, "bytes after the length"),
@@ -19,6 +20,8 @@ pub fn by(call: &Call, ours: &[u8], oracle: &[u8]) -> Option<u8> {
         Call::DataUnmarshal { .. } if without_data(call) => (6, ours == b"refused 15" && oracle.starts_with(b"data ")),
         Call::DataUserData { .. } if without_data(call) => (6, ours == b"refused 15" && oracle == b"part -"),
         Call::DataMarshal { .. } if without_data(call) => (6, ours.starts_with(b"refused 15 ") && oracle.starts_with(b"wrote 16 ")),
+        Call::DataUnmarshal { .. } if folded(call) => (5, oracle == with_58(ours)),
+        Call::DataMarshal { .. } if folded(call) => (5, ours.starts_with(b"wrote ") && oracle == written_with_58(ours)),
         Call::DataMarshal { data, .. } => (3, data.size > 65_519 && ours.starts_with(b"refused 9 ")),
         Call::SackMarshal { starts, duplicates, .. } => (3, starts.len() + duplicates.len() > 16_379 && ours.starts_with(b"refused 9 ")),
         Call::FwdMarshal { streams, .. } => (3, streams.len() > PAIRS && ours.starts_with(b"refused 9 ")),
@@ -38,6 +41,22 @@ pub fn by(call: &Call, ours: &[u8], oracle: &[u8]) -> Option<u8> {
     explained.then_some(number)
 }
 
+/// An answer `data FLAGS TSN STREAM SSN IDENTIFIER` with 58 for the last word.
+fn with_58(data: &[u8]) -> Vec<u8> {
+    let end = data.iter().rposition(|b| *b == b' ').map_or(0, |space| space + 1);
+    [&data[..end], b"58"].concat()
+}
+
+/// An answer `wrote N WHOLE` with 58 in bytes 12 to 15.
+fn written_with_58(wrote: &[u8]) -> Vec<u8> {
+    let start = wrote.iter().rposition(|b| *b == b' ').map_or(0, |space| space + 1) + 24;
+    let mut line = wrote.to_vec();
+    if let Some(digits) = line.get_mut(start..start + 8) {
+        digits.copy_from_slice(b"0000003a");
+    }
+    line
+}
+
 #[cfg(test)]
 mod tests {
     use super::*;
@@ -55,6 +74,24 @@ mod tests {
         let forward = |pairs| Call::FwdMarshal { room: 0, fill: 0, point: 0, streams: vec![0; pairs], ssns: vec![0; pairs] };
         assert_eq!(by(&forward(16_382), b"refused 9 -", b"no such answer"), Some(3));
         assert_eq!(by(&forward(16_381), b"refused 9 -", b"no such answer"), None);
+    }
+
+    #[test]
+    fn an_identifier_without_a_name_where_the_rust_has_58() {
+        let read = |identifier: u8, ours: &[u8], oracle: &[u8]| {
+            let raw = vec![0, 3, 0, 17, 0, 0, 0, 10, 0, 2, 0, 5, 0, 0, 0, identifier, 97];
+            by(&Call::DataUnmarshal { raw }, ours, oracle)
+        };
+        assert_eq!(read(7, b"data BE 10 2 5 7", b"data BE 10 2 5 58"), Some(5));
+        assert_eq!([read(7, b"data BE 10 2 5 7", b"data BE 10 2 6 58"), read(7, b"data BE 10 2 5 7", b"data BE 10 2 5 59")], [None; 2]);
+        assert_eq!([read(51, b"data BE 10 2 5 51", b"data BE 10 2 5 58"), read(7, b"refused 3", b"data BE 10 2 5 58")], [None; 2]);
+        let fields = |identifier| Fields { flags: 3, tsn: 10, stream: 2, ssn: 5, identifier };
+        let write = |identifier, ours: &str, oracle: &str| {
+            let call = Call::DataMarshal { room: 18, fill: 0xEE, fields: fields(identifier), data: Data { size: 1, seed: b'a' } };
+            by(&call, format!("wrote 17 000300110000000a00020005{ours}").as_bytes(), format!("wrote 17 000300110000000a00020005{oracle}").as_bytes())
+        };
+        assert_eq!(write(7, "0000000761ee", "0000003a61ee"), Some(5));
+        assert_eq!([write(7, "0000000761ee", "0000003a62ee"), write(7, "0000000761ee", "0000003b61ee"), write(51, "0000003361ee", "0000003a61ee")], [None; 3]);
     }
 
     #[test]

@@ -29,6 +29,20 @@ fn duplicates() -> Vec<Call> {
     [ordered, unordered].concat()
 }
 
+/// 5 and 18: identifiers without a name, read and written, and through both queues; beside them 58 and a name.
+fn identifiers() -> Vec<Call> {
+    let own = |identifier| Fields { identifier, ..fields(B | E, 1, 0) };
+    let read = |identifier: u32| [&[0, 3, 0, 17, 0, 0, 0, 1, 0, 0, 0, 0][..], &identifier.to_be_bytes(), &[97]].concat();
+    let data = Data { size: 1, seed: b'a' };
+    let of = |identifier| {
+        let alone = [Call::DataUnmarshal { raw: read(identifier) }, Call::DataMarshal { room: 18, fill: 0xEE, fields: own(identifier), data }];
+        let queued = [Call::PqPush { fields: own(identifier), size: 1, cumulative: 0 }, Call::PqGet { tsn: 1 }, Call::PqPop { tsn: 1 }];
+        let taken = [Call::RqPush { fields: own(identifier), data }, Call::RqState {}, self::read(1)];
+        fresh(alone.into_iter().chain(queued).chain(taken))
+    };
+    [7, 0, 51, 58, 51 + (1 << 16), 1_280_262_468, u32::MAX].into_iter().flat_map(of).collect()
+}
+
 /// 6: DATA without data, read and written; beside it one byte less and one more.
 fn without_data() -> Vec<Call> {
     let data = |length: u8| [0, 3, 0, length, 0, 0, 0, 10, 0, 2, 0, 5, 0, 0, 0, 51, 97][..length as usize].to_vec();
@@ -69,5 +83,5 @@ fn all_the_way_round() -> Vec<Call> {
 }
 
 pub fn calls() -> Vec<Call> {
-    [duplicates(), without_data(), half_way(), bytes_and_pieces(), all_the_way_round()].concat()
+    [duplicates(), identifiers(), without_data(), half_way(), bytes_and_pieces(), all_the_way_round()].concat()
 }

@@ -74,6 +74,31 @@ fn lengths_are_cut_to_16_bits() {
 }
 
 #[test]
+fn an_identifier_without_a_name_is_read_and_written_as_58() {
+    let raw = |identifier: u8| [&hex("00 03 00 11 00 00 00 01 00 00 00 00 00 00 00")[..], &[identifier, 0x61]].concat();
+    let written = |identifier| Call::DataMarshal { room: 17, fill: 0, fields: Fields { identifier, ..fields(B | E, 1, 0) }, data: Data { size: 1, seed: 0x61 } };
+    answered(&[
+        (Call::DataUnmarshal { raw: raw(7) }, "data BE 1 0 0 58"),
+        (Call::DataUnmarshal { raw: raw(57) }, "data BE 1 0 0 57"),
+        (written(7), "wrote 17 0003001100000001000000000000003a61"),
+        (written(u32::MAX), "wrote 17 0003001100000001000000000000003a61"),
+        (written(57), "wrote 17 0003001100000001000000000000003961"),
+    ]);
+}
+
+#[test]
+fn an_identifier_without_a_name_comes_out_of_the_queues_as_58() {
+    let fields = Fields { identifier: 7, ..fields(B | E, 1, 0) };
+    answered(&[
+        (Call::PqPush { fields, size: 1, cumulative: 0 }, "yes"),
+        (Call::PqGet { tsn: 1 }, "chunk BE 1 0 0 58 1"),
+        (Call::PqPop { tsn: 1 }, "chunk BE 1 0 0 58 1"),
+        (Call::RqPush { fields, data: Data { size: 1, seed: 0x61 } }, "yes"),
+        (read(1), "message 0 58 1 61"),
+    ]);
+}
+
+#[test]
 fn data_without_data_is_read_and_written() {
     let raw = hex("00 03 00 10 00 00 00 0a 00 02 00 05 00 00 00 33");
     let fields = Fields { flags: B | E, tsn: 10, stream: 2, ssn: 5, identifier: 51 };

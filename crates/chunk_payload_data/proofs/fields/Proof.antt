@@ -15,21 +15,19 @@ use Rattle.chunk_payload_data.proofs.fields.Tie as tie
 returns : tie.Need-returns
 unfolding bigEndian headerBytes dataValue dataHeld dataShown
 returns c f =
-    let p = c .before in
-    let n = p .before in
+    let n = c .before in
     let s = n .before in
     let t = s .before in
     let w = headed-whole dataValue DataFits 12 f refl (t .before .before .pre) in
     let d = f .fits .fields in
     rw (
-      c .from-u32 .ensures,
       ← (field w 4 4 (omega arith) (d .tsn) (search needs) refl (t .get-u32 .ensures)),
       ← (field w 8 2 (omega arith) (d .stream) (search needs) refl (s .get-u16 .ensures)),
       ← (field w 10 2 (omega arith) (d .ssn) (search needs) refl (n .get-u162 .ensures)),
-      ← (field w 12 4 (omega arith) (d .identifier) (search needs) refl (p .get-u322 .ensures)),
+      ← (field w 12 4 (omega arith) (d .identifier) (search needs) refl (c .get-u322 .ensures)),
     )
 
 pub fields-spec : {M : Type 1} → statement M
 fields-spec =
     tie.close
-    (tie.spec (λ c κs. search needs) (λ c κs. search needs) (λ c κs. search needs) (λ c κs. search needs) (λ c κs. search needs) returns)
+    (tie.spec (λ c κs. search needs) (λ c κs. search needs) (λ c κs. search needs) (λ c κs. search needs) returns)

@@ -33,8 +33,7 @@ unfolding dataWritten dataValue dataSent
 done c =
     let u = c .before .before in
     let h = u .before .before .before .before in
-    let n = h .before .before in
-    let f = n .before in
+    let f = h .before .before in
     let three = f .before in
     let two = three .before in
     let one = two .before in
@@ -45,11 +44,11 @@ done c =
     let sent = dataSent (a .fields) in
     write-done (sizeChecks (length user)) (dataChunk flags sent user) out
     (rw (ne-eqb _ 0 (one .if1 .left), le-ltb 65519 _ (two .if2 .left))) (data-chunk-length flags sent user) (three .if3 .left)
-    (chunk-put 0 flags 12 (dataValue sent) user out (data-value-length sent) (rw (f .flags-of .ensures, n .to-u32 .ensures) at (h .put-front-4224 .ensures)) (u .put-bytes .ensures))
+    (chunk-put 0 flags 12 (dataValue sent) user out (data-value-length sent) (rw (f .flags-of .ensures) at (h .put-front-4224 .ensures)) (u .put-bytes .ensures))
 
 pub marshal-to-spec : {M : Type 1} → statement M
 marshal-to-spec =
     tie.close
-    (tie.spec empty long (λ c. search needs) short (λ c κs. search needs) (λ c κs. search needs) (λ c. search needs) (λ c κs. search needs)
+    (tie.spec empty long (λ c. search needs) short (λ c κs. search needs) (λ c. search needs) (λ c κs. search needs)
     (λ c. search needs) (λ c. search needs) (λ c. search needs) (λ c κs. search needs)
     (λ c. search needs) done)

@@ -10,7 +10,7 @@ use Rattle.sctp_receive_tsns.proofs.taken.Tie as tie
 
 comes : tie.Need-returns
 unfolding queuedFound dataHeld
-comes c = rw (c .before .before .before .answer .given .1, c .to-u32 .ensures)
+comes c = rw (c .before .before .answer .given .1)
 
 none-left : tie.Need-returns-2
 none-left c = rw (c .enum-told .given .1)
@@ -21,4 +21,4 @@ refused c = rw (c .before .answer2 .given .1, back-refuse (c .before .answer2 .g
 pub taken-spec : {M : Type 1} → statement M
 taken-spec =
     tie.close
-    (tie.spec (λ c. search needs) (λ c κs. search needs) (λ c. search needs) (λ c. search needs) (λ c. search needs) comes none-left refused)
+    (tie.spec (λ c. search needs) (λ c. search needs) (λ c. search needs) (λ c. search needs) comes none-left refused)

@@ -1,9 +1,7 @@
 //! Chunks, read from lent bytes and written to the front of them.
 use crate::{Error, ffi};
 
-/// What the user data is: five identifiers have names. `as u32` is the number; every other number is read as [`Unknown`], and written as 58.
-///
-/// [`Unknown`]: PayloadProtocolIdentifier::Unknown
+/// What a payload identifier says of the user data: five have names, `as u32` their numbers. It is a reading of the number, which is what chunks and messages hold.
 #[derive(Clone, Copy, Debug, Default, PartialEq, Eq, Hash)]
 #[repr(u32)]
 pub enum PayloadProtocolIdentifier {
@@ -17,7 +15,7 @@ pub enum PayloadProtocolIdentifier {
     StringEmpty = 56,
     /// 57
     BinaryEmpty = 57,
-    /// 58, and every other number.
+    /// A number without a name.
     #[default]
     Unknown = 58,
 }
@@ -73,18 +71,23 @@ pub struct ChunkPayloadData {
     pub stream_identifier: u16,
     /// The message's number in its stream.
     pub stream_sequence_number: u16,
-    /// What the user data is.
-    pub payload_type: PayloadProtocolIdentifier,
+    /// The payload identifier, as it was sent.
+    pub payload_type: u32,
 }
 
 impl ChunkPayloadData {
     /// The fields of the DATA chunk that the bytes begin with.
     #[inline]
     pub fn unmarshal(raw: &[u8]) -> Result<Self, Error> {
-        let (mut p, mut number) = (Self::default(), 0);
-        Error::check(ffi::data_unmarshal(raw, &mut p, &mut number))?;
-        p.payload_type = number.into();
+        let mut p = Self::default();
+        Error::check(ffi::data_unmarshal(raw, &mut p))?;
         Ok(p)
+    }
+
+    /// The name of its payload identifier.
+    #[inline]
+    pub fn payload_name(&self) -> PayloadProtocolIdentifier {
+        self.payload_type.into()
     }
 
     /// The user data of the DATA chunk that the bytes begin with: a part of them, from byte 16 up to the chunk's length.

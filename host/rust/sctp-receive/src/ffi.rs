@@ -157,14 +157,13 @@ pub(crate) fn header_unmarshal(raw: &[u8], typ: &mut u8, flags: &mut u8, size: &
     unsafe { sctp_receive_header_unmarshal(raw.as_ptr(), raw.len(), typ, flags, size) }
 }
 
-/// The chunk's fields are written but for the payload identifier, whose number comes through `payload_type`.
 #[inline]
-pub(crate) fn data_unmarshal(raw: &[u8], p: &mut ChunkPayloadData, payload_type: &mut u32) -> i32 {
+pub(crate) fn data_unmarshal(raw: &[u8], p: &mut ChunkPayloadData) -> i32 {
     let (raw, raw_len) = (raw.as_ptr(), raw.len());
     let (u, b, e, i) = (&mut p.unordered, &mut p.beginning_fragment, &mut p.ending_fragment, &mut p.immediate_sack);
-    let (tsn, stream, ssn) = (&mut p.tsn, &mut p.stream_identifier, &mut p.stream_sequence_number);
+    let (tsn, stream, ssn, ppi) = (&mut p.tsn, &mut p.stream_identifier, &mut p.stream_sequence_number, &mut p.payload_type);
     // SAFETY: pointer and length are one slice's.
-    unsafe { sctp_receive_data_unmarshal(raw, raw_len, u, b, e, i, tsn, stream, ssn, payload_type) }
+    unsafe { sctp_receive_data_unmarshal(raw, raw_len, u, b, e, i, tsn, stream, ssn, ppi) }
 }
 
 #[inline]
@@ -177,7 +176,7 @@ pub(crate) fn data_user_data(raw: &[u8], start: &mut usize, size: &mut usize) ->
 pub(crate) fn data_marshal_to(out: &mut [u8], p: &ChunkPayloadData, user: &[u8], n: &mut usize) -> i32 {
     let (out, out_len) = (out.as_mut_ptr(), out.len());
     let (u, b, e, i) = (p.unordered, p.beginning_fragment, p.ending_fragment, p.immediate_sack);
-    let (tsn, stream, ssn, ppi) = (p.tsn, p.stream_identifier, p.stream_sequence_number, p.payload_type as u32);
+    let (tsn, stream, ssn, ppi) = (p.tsn, p.stream_identifier, p.stream_sequence_number, p.payload_type);
     // SAFETY: each pointer and the length after it are one slice's, and `out` is lent to us alone.
     unsafe { sctp_receive_data_marshal_to(out, out_len, u, b, e, i, tsn, stream, ssn, ppi, user.as_ptr(), user.len(), n) }
 }
@@ -265,7 +264,7 @@ pub(crate) fn reassembly_queue_push(
 ) -> i32 {
     let (pool, pool_len) = (pool.as_mut_ptr(), pool.len());
     let (u, b, e, i) = (p.unordered, p.beginning_fragment, p.ending_fragment, p.immediate_sack);
-    let (tsn, stream, ssn, ppi) = (p.tsn, p.stream_identifier, p.stream_sequence_number, p.payload_type as u32);
+    let (tsn, stream, ssn, ppi) = (p.tsn, p.stream_identifier, p.stream_sequence_number, p.payload_type);
     let (data, data_len) = (data.as_ptr(), data.len());
     let (si, next, max) = (&mut q.si, &mut q.next_ssn, &mut q.max_message_size);
     let (finished, unordered, ordered, n_bytes) = (&mut q.finished, &mut q.unordered, &mut q.ordered, &mut q.n_bytes);

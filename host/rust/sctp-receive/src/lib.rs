@@ -11,7 +11,7 @@
 //! let raw = [0, 3, 0, 19, 0, 0, 0, 10, 0, 2, 0, 0, 0, 0, 0, 51, b'a', b'b', b'c'];
 //! let chunk = ChunkPayloadData::unmarshal(&raw)?;
 //! let data = ChunkPayloadData::user_data(&raw)?; // a part of raw, not a copy
-//! assert_eq!((chunk.tsn, chunk.payload_type), (10, PayloadProtocolIdentifier::String));
+//! assert_eq!((chunk.tsn, chunk.payload_type, chunk.payload_name()), (10, 51, PayloadProtocolIdentifier::String));
 //!
 //! let mut tsns = PayloadQueue::new();
 //! let mut stream = ReassemblyQueue::new(2, 65_536);

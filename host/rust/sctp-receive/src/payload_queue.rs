@@ -89,7 +89,7 @@ impl PayloadQueue {
             p.tsn,
             p.stream_identifier,
             p.stream_sequence_number,
-            p.payload_type as u32,
+            p.payload_type,
             size,
             cumulative_tsn,
             &mut is,
@@ -100,7 +100,7 @@ impl PayloadQueue {
     /// Removes and gives the first chunk, if its TSN is this one; else nothing changes.
     #[inline]
     pub fn pop(&mut self, tsn: u32) -> Option<Queued> {
-        let (q, mut found, mut out, mut number) = (self, false, Queued::default(), 0);
+        let (q, mut found, mut out) = (self, false, Queued::default());
         let p = &mut out.chunk;
         never_refused(ffi::sctp_receive_payload_queue_pop(
             &mut q.count,
@@ -117,10 +117,9 @@ impl PayloadQueue {
             &mut p.tsn,
             &mut p.stream_identifier,
             &mut p.stream_sequence_number,
-            &mut number,
+            &mut p.payload_type,
             &mut out.size,
         ));
-        p.payload_type = number.into();
         found.then_some(out)
     }
 
@@ -158,7 +157,7 @@ impl PayloadQueue {
     /// The chunk that is held with this TSN.
     #[inline]
     pub fn get(&self, tsn: u32) -> Option<Queued> {
-        let (q, mut found, mut out, mut number) = (self, false, Queued::default(), 0);
+        let (q, mut found, mut out) = (self, false, Queued::default());
         let p = &mut out.chunk;
         never_refused(ffi::sctp_receive_payload_queue_get(
             q.count,
@@ -175,10 +174,9 @@ impl PayloadQueue {
             &mut p.tsn,
             &mut p.stream_identifier,
             &mut p.stream_sequence_number,
-            &mut number,
+            &mut p.payload_type,
             &mut out.size,
         ));
-        p.payload_type = number.into();
         found.then_some(out)
     }
 

@@ -103,9 +103,15 @@ impl<'a> Chunks<'a> {
         self.hand.ssn
     }
 
-    /// Its payload identifier.
+    /// Its payload identifier, as it was sent.
     #[inline]
-    pub fn ppi(&self) -> PayloadProtocolIdentifier {
+    pub fn ppi(&self) -> u32 {
+        self.hand.ppi
+    }
+
+    /// The name of its payload identifier.
+    #[inline]
+    pub fn payload_name(&self) -> PayloadProtocolIdentifier {
         self.hand.ppi.into()
     }
 

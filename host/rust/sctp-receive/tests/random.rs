@@ -34,7 +34,7 @@ impl Random {
             tsn: base.wrapping_add(near),
             stream_identifier: if self.often(95) { 3 } else { 4 },
             stream_sequence_number: ((base as u16).wrapping_add(self.below(4) as u16)),
-            payload_type: PayloadProtocolIdentifier::from(49 + self.below(11) as u32),
+            payload_type: if self.often(70) { 49 + self.below(11) as u32 } else { self.next() as u32 },
         }
     }
 }
@@ -200,7 +200,7 @@ fn take(q: &mut ReassemblyQueue, m: &mut Stream, r: &mut Random, seen: &mut Seen
     };
     let wanted = wanted.unwrap().unwrap();
     seen.found += 1;
-    assert_eq!((got.ssn(), got.ppi() as u32, got.len()), (wanted.ssn, wanted.ppi, wanted.bytes.len()));
+    assert_eq!((got.ssn(), got.ppi(), got.len()), (wanted.ssn, wanted.ppi, wanted.bytes.len()));
     assert_eq!(got.is_empty(), wanted.bytes.is_empty());
     let mut out = vec![5; r.below(wanted.bytes.len() as u64 + 3) as usize];
     let n = out.len().min(got.len());

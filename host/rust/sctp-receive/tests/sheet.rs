@@ -37,7 +37,7 @@ fn p2_data() {
     let fields = ChunkPayloadData {
         stream_identifier: 2,
         stream_sequence_number: 5,
-        payload_type: PayloadProtocolIdentifier::String,
+        payload_type: PayloadProtocolIdentifier::String as u32,
         ..data(10, "BE")
     };
     assert_eq!(ChunkPayloadData::unmarshal(&P2), Ok(fields));
@@ -54,9 +54,31 @@ fn p3_identifier() {
     let mut raw = P2;
     raw[15] = 7;
     let read = ChunkPayloadData::unmarshal(&raw).unwrap();
-    assert_eq!(read.payload_type, PayloadProtocolIdentifier::Unknown);
-    assert_eq!(read.marshal_to(&mut raw, b"abc"), Ok(19));
-    assert_eq!(raw[12..16], [0, 0, 0, 58]);
+    assert_eq!((read.payload_type, read.payload_name()), (7, PayloadProtocolIdentifier::Unknown));
+    let mut again = [9; 19];
+    assert_eq!((read.marshal_to(&mut again, b"abc"), again), (Ok(19), raw));
+}
+
+#[test]
+fn identifiers_stay_as_they_were_sent() {
+    for number in [0, 7, 49, 50, 51, 53, 56, 57, 58, 59, 65_587, 0x4C4F_4144, u32::MAX] {
+        let chunk = ChunkPayloadData { payload_type: number, ..data(1, "BE") };
+        let mut raw = [0; 17];
+        assert_eq!((chunk.marshal_to(&mut raw, b"a"), ChunkPayloadData::unmarshal(&raw)), (Ok(17), Ok(chunk)));
+        assert_eq!(raw[12..16], number.to_be_bytes());
+        let mut tsns = PayloadQueue::new();
+        assert_eq!(
+            (tsns.push(&chunk, 1, 0), tsns.get(1), tsns.pop(1)),
+            (Ok(true), Some(Queued { chunk, size: 1 }), Some(Queued { chunk, size: 1 }))
+        );
+        let mut stream = ReassemblyQueue::new(0, 10);
+        let mut buffer = [0; 1];
+        assert_eq!(stream.push(&chunk, b"a"), Ok(true));
+        let message = stream.read(&mut buffer).unwrap().unwrap();
+        assert_eq!((message.ppi(), message.payload_name()), (number, chunk.payload_name()));
+        let named = [50, 51, 53, 56, 57].contains(&number);
+        assert_eq!(message.payload_name() as u32, if named { number } else { 58 });
+    }
 }
 
 #[test]
@@ -184,7 +206,7 @@ fn p9_to_p11_reassembly() {
     assert!(q.is_readable());
     assert_eq!(q.read(&mut buffer[..2]), Err(Error::NoRoom));
     let m = q.read(&mut buffer).unwrap().unwrap();
-    assert_eq!((m.len(), m.is_empty(), m.ssn(), m.ppi()), (3, false, 0, PayloadProtocolIdentifier::Unknown));
+    assert_eq!((m.len(), m.is_empty(), m.ssn(), m.ppi()), (3, false, 0, 0));
     assert_eq!((m.read(&mut out), &out), (Ok(3), b"abc\x08\x08"));
     assert_eq!((buffer, q.is_readable(), q.get_num_bytes()), (*b"abc\x09\x09", false, 0));
     assert_eq!(q.read(&mut buffer), Ok(None));

@@ -1,5 +1,5 @@
 //! Chunks that are good, and chunks that are damaged; fields to be written; numbers that wrap.
-use super::Maker;
+use super::{Maker, unnamed};
 use crate::Mode;
 use crate::domain;
 use crate::model::codec;
@@ -41,14 +41,16 @@ pub fn serials(m: &mut Maker) {
     }
 }
 
-pub fn fields(rng: &mut Rng) -> Fields {
-    let identifier = rng.number() as u32;
+/// Fields to be written. An identifier without a name is difference 5, of which mode `in` has a few.
+fn fields(m: &mut Maker) -> Fields {
+    let identifier = if m.rng.one_in(9) { unnamed(&mut m.rng) } else { m.identifier() };
+    let rng = &mut m.rng;
     Fields {
         flags: rng.byte(),
         tsn: rng.number() as u32,
         stream: rng.number() as u16,
         ssn: rng.number() as u16,
-        identifier: rng.pick(&[49, 50, 51, 52, 53, 54, 55, 56, 57, 58, identifier]),
+        identifier,
     }
 }
 
@@ -79,11 +81,12 @@ fn words(rng: &mut Rng, n: usize) -> Vec<u32> {
 
 /// A chunk of some kind, good or damaged.
 fn chunk(m: &mut Maker) -> Vec<u8> {
+    let fields = fields(m);
     let rng = &mut m.rng;
     let mut raw = match rng.below(10) {
         0..3 => {
             let data = Data { size: size(rng) as u32, seed: rng.byte() };
-            codec::data_chunk(&fields(rng), &data.bytes())
+            codec::data_chunk(&fields, &data.bytes())
         }
         3..6 => {
             let (n, x) = (entries(rng), entries(rng));
@@ -130,7 +133,7 @@ fn damage(rng: &mut Rng, raw: &mut Vec<u8>) {
     }
 }
 
-/// One to three reading calls on the same bytes. In mode `in` the padding is 0, but for a few that difference 9 explains; DATA without data is difference 6.
+/// One to three reading calls on the same bytes. In mode `in` the padding is 0, but for a few that difference 9 explains; DATA without data is difference 6, an identifier without a name 5.
 fn read(m: &mut Maker) {
     let mut raw = chunk(m);
     let padding = domain::padding(&raw).len();
@@ -173,11 +176,11 @@ fn room(m: &mut Maker, bytes: u64) -> u32 {
 }
 
 fn write_data(m: &mut Maker) {
-    // Too long for a length of 16 bits: difference 3. No data: difference 6.
+    // Too long for a length of 16 bits: difference 3. No data: difference 6. An identifier without a name: difference 5.
     let too_long = m.rng.one_in(if m.mode == Mode::Out { 60 } else { 3_000 });
     let n = if too_long { m.rng.within(65_520, 65_600) } else { size(&mut m.rng) };
     let room = if too_long { m.rng.pick(&[0, 0, 0, 30, BYTES_MOST as u32]) } else { room(m, 16 + n) };
-    let call = Call::DataMarshal { room, fill: m.rng.byte(), fields: fields(&mut m.rng), data: Data { size: n as u32, seed: m.rng.byte() } };
+    let call = Call::DataMarshal { room, fill: m.rng.byte(), fields: fields(m), data: Data { size: n as u32, seed: m.rng.byte() } };
     m.put(call);
 }
 

@@ -134,7 +134,7 @@ fn word(m: &mut Maker) {
         3 => (0, head ^ m.rng.pick(&[1, 2, 8, 256, 32_768])),
         4 => (1, tsn(&mut m.rng, m.model.reassembly.held())),
         5 | 6 => (2, m.rng.pick(&[other, id + 1, expected, id ^ 1 << 15, any])),
-        _ => (3, any % 70),
+        _ => (3, m.rng.pick(&[any % 70, any])),
     };
     field(m, 7, 128 * column + row, value);
 }

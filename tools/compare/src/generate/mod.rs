@@ -59,6 +59,12 @@ pub fn batch(mode: Mode, seed: u64, number: u64, size: usize) -> Batch {
     m.batch
 }
 
+/// A payload identifier that mostly has no name: beside the names, with the low 16 bits of one, or any.
+pub fn unnamed(rng: &mut Rng) -> u32 {
+    let any = rng.number() as u32;
+    rng.pick(&[0, 7, 49, 52, 54, 55, 59, 51 + (1 << 16), 53 + (any % 9 << 16), any, any])
+}
+
 pub struct Maker {
     pub rng: Rng,
     pub mode: Mode,
@@ -101,6 +107,11 @@ impl Maker {
         self.batch.coverage.count(&call, &self.batch.lines[start..]);
         self.batch.lines.push(b'\n');
         self.batch.calls.push(call);
+    }
+
+    /// A payload identifier that the Rust keeps; outside the domain also any other.
+    pub fn identifier(&mut self) -> u32 {
+        if self.wild(2) { unnamed(&mut self.rng) } else { self.rng.pick(&domain::KEPT) }
     }
 
     /// Now and then, outside the domain.

@@ -1,4 +1,5 @@
 //! Plans: messages cut into fragments, as a sender would send them.
+use super::Maker;
 use crate::rng::Rng;
 use calls::{B, Data, E, Fields, I, U};
 
@@ -16,11 +17,13 @@ pub struct Kind {
 }
 
 /// The fragments of some messages, in sending order. Half of the plans have a message of three or more fragments across the TSNs' wrap.
-pub fn fragments(rng: &mut Rng, kind: Kind) -> Vec<Fragment> {
+pub fn fragments(m: &mut Maker, kind: Kind) -> Vec<Fragment> {
     let mut all: Vec<Fragment> = Vec::new();
     let (mut tsn, mut ssn) = (0u32, kind.ssn);
     let mut inner = Vec::new();
     for _ in 0..kind.messages {
+        let identifier = m.identifier();
+        let rng = &mut m.rng;
         let unordered = rng.one_in(2);
         let count = match rng.below(20) {
             0..4 => 1,
@@ -28,7 +31,6 @@ pub fn fragments(rng: &mut Rng, kind: Kind) -> Vec<Fragment> {
             7..18 => rng.within(3, 6),
             _ => rng.within(7, 16),
         };
-        let identifier = rng.pick(&[50, 51, 53, 56, 57, 58, 7]);
         for i in 0..count {
             if count >= 3 && i > 0 {
                 inner.push(tsn);
@@ -40,6 +42,7 @@ pub fn fragments(rng: &mut Rng, kind: Kind) -> Vec<Fragment> {
         tsn = tsn.wrapping_add(rng.pick(&[0, 0, 0, 1, 5]));
         ssn = if unordered { ssn } else { ssn.wrapping_add(1) };
     }
+    let rng = &mut m.rng;
     let base = if inner.is_empty() || rng.one_in(3) { super::tsns::base(rng) } else { 0u32.wrapping_sub(rng.pick(&inner)) };
     for (fields, _) in &mut all {
         fields.tsn = fields.tsn.wrapping_add(base);

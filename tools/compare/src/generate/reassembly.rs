@@ -49,7 +49,7 @@ fn planned(m: &mut Maker) {
     }
     let most = m.rng.pick(&[2, 5, 5, 9, 30]);
     let kind = Kind { stream: m.model.reassembly.stream, messages, most, ssn: m.model.reassembly.expected };
-    let due = plan::fragments(&mut m.rng, kind);
+    let due = plan::fragments(m, kind);
     let plain = m.rng.one_in(2);
     arrive(m, due, plain);
 }
@@ -89,13 +89,14 @@ fn odd(m: &mut Maker) {
         let expected = m.model.reassembly.expected;
         let stream = m.model.reassembly.stream.wrapping_add(m.rng.one_in(15) as u16);
         let base = if m.wild(12) { m.rng.number() as u32 } else { base };
+        let identifier = m.identifier();
         let rng = &mut m.rng;
         let near = rng.below(10) as u32;
         let tsn = base.wrapping_add(rng.pick(&[near, near, near, near, (1 << 31) - 1 - near, near.wrapping_add(1 << 31)]));
         let beside = rng.below(5) as u16;
         let ssn = expected.wrapping_add(rng.pick(&[beside, 0, 1, beside.wrapping_sub(3), 32_767 - beside, 32_768 - beside]));
         let flags = rng.byte() & if rng.one_in(2) { 15 } else { 15 ^ U };
-        let fields = Fields { flags, tsn, stream, ssn, identifier: rng.pick(&[50, 51, 53, 7]) };
+        let fields = Fields { flags, tsn, stream, ssn, identifier };
         let data = Data { size: rng.below(6) as u32, seed: rng.byte() };
         m.call(Call::RqPush { fields, data });
         if m.rng.one_in(14) {

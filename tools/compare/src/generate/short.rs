@@ -28,14 +28,15 @@ const LONG: u64 = READERS * 41 + 21 * 3 + 5 * 3 + 5;
 pub const COUNT: u64 = UP_TO_TWO + THREE + FOUR + LENGTHS + SACKS + SSNS + WRITTEN + LONG;
 
 /// The k-th short input, in an order that mixes them; the list starts again behind its end. In mode `in` what is outside the domain is left out, but for
-/// numbers half way apart, which difference 8 explains, lists that are too long, which 3 does, and DATA without data, which 6 does.
+/// numbers half way apart, which difference 8 explains, lists that are too long, which 3 does, DATA without data, which 6 does, and identifiers without a name,
+/// which 5 does.
 pub fn item(m: &mut Maker, k: u64) {
     let call = numbered((k % COUNT).wrapping_mul(1_000_003) % COUNT, m.mode);
     match call {
         Call::Sna16 { .. } => m.put(call),
         Call::FwdMarshal { ref streams, .. } if streams.len() > PAIRS => m.put(call),
         Call::SackMarshal { ref starts, ref duplicates, .. } if starts.len() + duplicates.len() > 16_379 => m.put(call),
-        _ if domain::without_data(&call) => m.put(call),
+        _ if domain::without_data(&call) || domain::folded(&call) => m.put(call),
         _ => _ = m.call(call),
     }
 }
@@ -94,6 +95,10 @@ fn lengths(k: u64) -> Vec<u8> {
     for high in [12, 14] {
         (raw[high], raw[high + 1]) = (0, rng.below(4) as u8);
     }
+    // An identifier about those that have names.
+    if kind == 0 && lent % 2 == 0 {
+        (raw[13], raw[15]) = (0, 50 + rng.below(9) as u8);
+    }
     raw.truncate(lent as usize);
     raw
 }
@@ -145,7 +150,7 @@ fn long(k: u64, mode: Mode) -> Call {
     if k < 21 * 3 {
         let size = 65_515 + (k / 3) as u32;
         let room = [0, 16 + size, 65_600][(k % 3) as usize].min(65_600);
-        return Call::DataMarshal { room, fill: 0xEE, fields: Fields::default(), data: Data { size, seed: 1 } };
+        return Call::DataMarshal { room, fill: 0xEE, fields: Fields { identifier: 51, ..Fields::default() }, data: Data { size, seed: 1 } };
     }
     let k = k - 21 * 3;
     if k >= 5 * 3 {

@@ -42,6 +42,7 @@ pub fn base(rng: &mut Rng) -> u32 {
 }
 
 fn push(m: &mut Maker, tsn: u32, cumulative: u32) -> bool {
+    let identifier = m.identifier();
     let rng = &mut m.rng;
     let size = rng.number() as u16;
     let fields = Fields {
@@ -49,7 +50,7 @@ fn push(m: &mut Maker, tsn: u32, cumulative: u32) -> bool {
         tsn,
         stream: rng.below(4) as u16,
         ssn: rng.pick(&[0, 1, 65_535]),
-        identifier: rng.pick(&[50, 51, 53, 56, 57, 58, 7]),
+        identifier,
     };
     let size = rng.pick(&[0, 1, size % 1_500, size, u16::MAX]);
     m.call(Call::PqPush { fields, size, cumulative })

@@ -1,6 +1,6 @@
-//! Header, DATA and SACK: document 01, 'Chunk layouts', and document 02's M-104. A refusal is `Err` with its number.
+//! Header, DATA and SACK: document 01, 'Chunk layouts', and document 02's M-101 and M-104. A refusal is `Err` with its number.
 use super::fault::{Fault, Wrong};
-use calls::{Fields, line::named};
+use calls::Fields;
 
 pub struct Header {
     pub kind: u8,
@@ -56,7 +56,7 @@ pub fn data(raw: &[u8], wrong: Wrong) -> Result<(Fields, &[u8]), u8> {
         tsn: number(&raw[4..8]),
         stream: number(&raw[8..10]) as u16,
         ssn: number(&raw[10..12]) as u16,
-        identifier: number(&raw[12..16]),
+        identifier: wrong.told(Fault::ReadFolded, number(&raw[12..16])),
     };
     Ok((fields, &raw[16..header.length]))
 }
@@ -101,12 +101,12 @@ pub fn chunk(kind: u8, flags: u8, value: &[u8]) -> Vec<u8> {
     bytes
 }
 
-/// A DATA chunk. Its upper four flags are zero, and an identifier without a name is written as 58.
+/// A DATA chunk. Its upper four flags are zero, and its identifier is the number as it is.
 pub fn data_chunk(fields: &Fields, data: &[u8]) -> Vec<u8> {
     let mut value = fields.tsn.to_be_bytes().to_vec();
     value.extend(fields.stream.to_be_bytes());
     value.extend(fields.ssn.to_be_bytes());
-    value.extend(named(fields.identifier).to_be_bytes());
+    value.extend(fields.identifier.to_be_bytes());
     value.extend(data);
     chunk(0, fields.flags & 15, &value)
 }
@@ -139,7 +139,8 @@ pub fn write_data(out: &mut [u8], fields: &Fields, data: &[u8], wrong: Wrong) ->
     if data.len() > 65_519 && !wrong.is(Fault::LengthsCut) {
         return Err(9);
     }
-    write(out, &data_chunk(fields, data))
+    let fields = Fields { identifier: wrong.told(Fault::WrittenFolded, fields.identifier), ..*fields };
+    write(out, &data_chunk(&fields, data))
 }
 
 /// 9: N + X above 16,379, or unequal lists.

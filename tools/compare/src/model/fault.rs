@@ -52,6 +52,11 @@ faults! {
     EmptyWritten "DATA without data is written, as by the Rust"
     EmptyShort "a DATA length of 16 is told as one below 16"
     RoomBeforeEmpty "the room is tested before DATA without data"
+    ReadFolded "an identifier without a name is read as 58, as by the Rust"
+    WrittenFolded "an identifier without a name is written as 58, as by the Rust"
+    QueueFolded "the TSN queue holds 58 for an identifier without a name"
+    HandFolded "the message in hand has 58 for an identifier without a name"
+    IdentifierCut "a fragment's identifier is cut to 16 bits"
 }
 
 /// Which mistake is made, if any.
@@ -61,5 +66,10 @@ pub struct Wrong(pub Option<Fault>);
 impl Wrong {
     pub fn is(self, fault: Fault) -> bool {
         self.0 == Some(fault)
+    }
+
+    /// An identifier: where this mistake is made, 58 for every number without a name.
+    pub fn told(self, fault: Fault, identifier: u32) -> u32 {
+        if self.is(fault) && ![50, 51, 53, 56, 57].contains(&identifier) { 58 } else { identifier }
     }
 }

@@ -183,7 +183,11 @@ impl Reassembly {
         if fields.stream != self.stream {
             return Ok(false);
         }
-        let new = Fragment { row: Row::new(fields, data.len() as u32), bytes: data };
+        let mut row = Row::new(fields, data.len() as u32);
+        if self.serial.wrong.is(Fault::IdentifierCut) {
+            row.identifier %= 1 << 16;
+        }
+        let new = Fragment { row, bytes: data };
         if fields.flags & U != 0 { self.push_unordered(new) } else { self.push_ordered(new) }
     }
 
@@ -288,7 +292,8 @@ impl Reassembly {
         if !next.finished && ssn == self.expected && !self.serial.wrong.is(Fault::ExpectedStays) {
             self.expected = self.expected.wrapping_add(1);
         }
-        Ok(Some(Message { ssn, identifier: first.identifier, bytes }))
+        let identifier = self.serial.wrong.told(Fault::HandFolded, first.identifier);
+        Ok(Some(Message { ssn, identifier, bytes }))
     }
 
     /// "Incomplete sets at or before s go; if the expected SSN is at or before s it becomes s + 1."

@@ -224,7 +224,7 @@ impl Model {
                     wrong: self.serial.wrong,
                 });
                 told(answer, line, |message, line| match message {
-                    Some(m) => words!(line, "message", m.ssn, line::named(m.identifier), m.bytes.len()),
+                    Some(m) => words!(line, "message", m.ssn, m.identifier, m.bytes.len()),
                     None => words!(line, "none"),
                 });
                 line::bytes(&buffer, line)

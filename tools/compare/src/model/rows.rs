@@ -1,5 +1,5 @@
 //! Records in a table of words, which has one column after the other: heads, TSNs, streams with SSNs, payload identifiers.
-use calls::{B, E, Fields, line::named};
+use calls::{B, E, Fields};
 
 /// A record as it is held: its head is the flags, 2^24 times, and the data length.
 #[derive(Clone, Copy, Default, Debug, PartialEq, Eq)]
@@ -16,7 +16,7 @@ impl Row {
             head: ((fields.flags & 15) as u32) << 24 | size,
             tsn: fields.tsn,
             id: (fields.stream as u32) << 16 | fields.ssn as u32,
-            identifier: named(fields.identifier),
+            identifier: fields.identifier,
         }
     }
 

@@ -56,11 +56,24 @@ fn p2_data() {
 }
 
 #[test]
-fn p3_unknown_identifier() {
+fn p3_identifier_as_sent() {
     let raw = hex("00 00 00 11 00 00 00 01 00 00 00 00 00 00 00 07 61");
-    assert_eq!(alone(Call::DataUnmarshal { raw }), "data - 1 0 0 58");
+    assert_eq!(alone(Call::DataUnmarshal { raw }), "data - 1 0 0 7");
     let written = alone(Call::DataMarshal { room: 17, fill: 0, fields: Fields { identifier: 7, ..Fields::default() }, data: Data { size: 1, seed: b'a' } });
-    assert!(written.ends_with("0000003a61"), "{written}");
+    assert!(written.ends_with("0000000761"), "{written}");
+}
+
+#[test]
+fn identifiers_stay_through_the_queues() {
+    for identifier in [0, 7, 49, 50, 58, 59, 65_587, 1_280_262_468, u32::MAX] {
+        let fields = Fields { flags: B | E, tsn: 1, identifier, ..Fields::default() };
+        let mut model = Model::new();
+        assert_eq!(line(&mut model, Call::PqPush { fields, size: 1, cumulative: 0 }), "yes");
+        assert_eq!(line(&mut model, Call::PqPop { tsn: 1 }), format!("chunk BE 1 0 0 {identifier} 1"));
+        assert_eq!(line(&mut model, Call::RqPush { fields, data: Data { size: 1, seed: b'a' } }), "yes");
+        assert_eq!(line(&mut model, Call::RqState {}), format!("queue 0 0 65536 1 | o BE 1 0 0 {identifier} 61"));
+        assert_eq!(line(&mut model, Call::RqRead { room: 1, fill: 0 }), format!("message 0 {identifier} 1 61"));
+    }
 }
 
 #[test]
@@ -78,10 +91,10 @@ fn data_without_data_is_refused() {
     };
     assert_eq!([read(0, 16, 16), read(0, 16, 17)], [["refused 15", "refused 15"]; 2]);
     assert_eq!([read(0, 16, 15), read(3, 16, 16), read(0, 15, 16)], [["refused 2"; 2], ["refused 3"; 2], ["refused 4"; 2]]);
-    assert_eq!(read(0, 17, 17), ["data - 0 0 0 58", "part 00"]);
+    assert_eq!(read(0, 17, 17), ["data - 0 0 0 0", "part 00"]);
     let written = |room, size| alone(Call::DataMarshal { room, fill: 0xEE, fields: Fields::default(), data: Data { size, seed: 7 } });
     assert_eq!([written(0, 0), written(3, 0), written(17, 0)], ["refused 15 -".into(), "refused 15 eeeeee".into(), format!("refused 15 {}", "ee".repeat(17))]);
-    assert_eq!([written(17, 1), written(0, 1)], ["wrote 17 0000001100000000000000000000003a07", "refused 10 -"]);
+    assert_eq!([written(17, 1), written(0, 1)], ["wrote 17 0000001100000000000000000000000007", "refused 10 -"]);
 }
 
 const P5: &str = "03 00 00 1C 00 00 00 64 00 00 05 DC 00 02 00 01 00 02 00 03 00 05 00 05 00 00 00 62";

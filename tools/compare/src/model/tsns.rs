@@ -77,7 +77,9 @@ impl Tsns {
             return Err(8);
         }
         let mut held = self.held().to_vec();
-        held.insert(place(&held, |r| self.serial.tsn_before(r.tsn, fields.tsn)), Row::new(fields, size as u32));
+        let mut row = Row::new(fields, size as u32);
+        row.identifier = self.serial.wrong.told(Fault::QueueFolded, row.identifier);
+        held.insert(place(&held, |r| self.serial.tsn_before(r.tsn, fields.tsn)), row);
         self.lay(held);
         Ok(true)
     }

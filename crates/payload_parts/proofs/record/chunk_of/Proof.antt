@@ -1,5 +1,6 @@
 -- `payload_parts::record::chunk_of` meets its contract: each field is what the row's words say.
 -- Assumes nothing.
+use mathlib.Core.Path.{refl}
 use borrow.Author.Needs.{needs}
 use Rattle.chunk_payload_data.specs.Data.{dataHeld, dataShown}
 use Rattle.payload_model.specs.Queue.{chunkOf}
@@ -9,7 +10,7 @@ use Rattle.payload_parts.proofs.record.chunk_of.Tie as tie
 
 returns : tie.Need-returns
 unfolding queuedFound chunkOf dataHeld dataShown
-returns c = rw (c .before .before .before .from-u32 .ensures)
+returns c = refl
 
 pub chunk-of-spec : {M : Type 1} → statement M
-chunk-of-spec = tie.close (tie.spec (λ c κs. search needs) (λ c. search needs) (λ c. search needs) (λ c. search needs) returns)
+chunk-of-spec = tie.close (tie.spec (λ c. search needs) (λ c. search needs) (λ c. search needs) returns)

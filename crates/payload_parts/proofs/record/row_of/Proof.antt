@@ -8,7 +8,7 @@ use Rattle.payload_parts.proofs.record.row_of.Tie as tie
 
 returns : tie.Need-returns
 unfolding rowOf dataSent
-returns c = let t = c .before .before in rw (t .before .flags-of .ensures, t .to-u32 .ensures)
+returns c = rw (c .before .before .flags-of .ensures)
 
 pub row-of-spec : {M : Type 1} → statement M
-row-of-spec = tie.close (tie.spec (λ c κs. search needs) (λ c κs. search needs) (λ c. search needs) (λ c. search needs) (λ c. search needs) (λ c. search needs) (λ c. search needs) (λ c. search needs) (λ c. search needs) returns)
+row-of-spec = tie.close (tie.spec (λ c κs. search needs) (λ c. search needs) (λ c. search needs) (λ c. search needs) (λ c. search needs) (λ c. search needs) (λ c. search needs) (λ c. search needs) returns)

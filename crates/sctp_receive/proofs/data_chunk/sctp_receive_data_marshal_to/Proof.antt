@@ -6,7 +6,7 @@ use Rattle.sctp_receive.proofs.data_chunk.sctp_receive_data_marshal_to.
 
 same : tie.Need-returns
 same c =
-    rw (← (c .before .before .before .before .before .before .from-u32 .ensures), c .marshalled .ensures) (c .before .before .before .before .marshal-to .ensures)
+    rw (c .marshalled .ensures) (c .before .before .before .before .marshal-to .ensures)
 
 pub sctp-receive-data-marshal-to-spec : {M : Type 1} → statement M
-sctp-receive-data-marshal-to-spec = tie.close (tie.spec (λ c κs. search needs) (λ c κs. search needs) (λ c κs. search needs) (λ c. search needs) same)
+sctp-receive-data-marshal-to-spec = tie.close (tie.spec (λ c κs. search needs) (λ c κs. search needs) (λ c. search needs) same)

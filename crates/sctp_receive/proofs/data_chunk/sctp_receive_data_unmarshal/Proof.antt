@@ -9,7 +9,7 @@ use Rattle.sctp_receive.proofs.data_chunk.sctp_receive_data_unmarshal.T
 
 taken : tie.Need-returns
 unfolding dataHeld
-taken c f = rw (← (c .before .before .before .before .unmarshal .ensures f), c .before .before .answer .given .1, c .to-u32 .ensures)
+taken c f = rw (← (c .before .before .before .unmarshal .ensures f), c .before .answer .given .1)
 
 refused : tie.Need-returns-2
 refused c f =
@@ -18,4 +18,4 @@ refused c f =
 pub sctp-receive-data-unmarshal-spec : {M : Type 1} → statement M
 sctp-receive-data-unmarshal-spec =
     tie.close
-    (tie.spec (λ c κs. search needs) (λ c. search needs) (λ c κs. search needs) (λ c. search needs) (λ c. search needs) taken refused)
+    (tie.spec (λ c κs. search needs) (λ c. search needs) (λ c. search needs) (λ c. search needs) taken refused)

@@ -8,9 +8,9 @@ use Rattle.sctp_receive.proofs.fragment_calls.sctp_receive_reassembly_q
 
 same : tie.Need-returns
 same c =
-    rw (← (c .before .before .before .before .before .before .before .before .before .before .before .before .before .before .before .before .from-u32 .ensures)) (fragments-left _ _ (c .flag .ensures) (c .before .before .put .ensures) ∙ c .before .before .before .before .before .before .before .before .before .before .before .before .before .push .ensures)
+    fragments-left _ _ (c .flag .ensures) (c .before .before .put .ensures) ∙ c .before .before .before .before .before .before .before .before .before .before .before .before .before .push .ensures
 
 pub sctp-receive-reassembly-queue-push-spec : {M : Type 1} → statement M
 sctp-receive-reassembly-queue-push-spec =
     tie.close
-    (tie.spec (λ c κs. search needs) (λ c κs. search needs) (λ c κs. search needs) (λ c κs. search needs) (λ c. search needs) same)
+    (tie.spec (λ c κs. search needs) (λ c κs. search needs) (λ c κs. search needs) (λ c. search needs) same)

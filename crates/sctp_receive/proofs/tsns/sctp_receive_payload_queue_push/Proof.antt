@@ -8,7 +8,7 @@ use Rattle.sctp_receive.proofs.tsns.sctp_receive_payload_queue_push.Tie
 
 same : tie.Need-returns
 same c =
-    rw (toZ-ofZ {w = w32} {z = c .push .result} (record { sfits = c .push .ok }), ← (c .before .before .before .before .before .before .before .from-u32 .ensures)) (c .push .ensures)
+    rw (toZ-ofZ {w = w32} {z = c .push .result} (record { sfits = c .push .ok })) (c .push .ensures)
 
 pub sctp-receive-payload-queue-push-spec : {M : Type 1} → statement M
-sctp-receive-payload-queue-push-spec = tie.close (tie.spec (λ c κs. search needs) (λ c κs. search needs) same)
+sctp-receive-payload-queue-push-spec = tie.close (tie.spec (λ c κs. search needs) same)

@@ -149,7 +149,7 @@ impl Stream {
         }
         let at = at.unwrap_or_else(|| {
             let at = place(&self.sets, |s| before16(ssn(s), chunk.stream_sequence_number));
-            self.sets.insert(at, (chunk.payload_type as u32, vec![]));
+            self.sets.insert(at, (chunk.payload_type, vec![]));
             at
         });
         let set = &mut self.sets[at].1;
@@ -205,7 +205,7 @@ impl Stream {
     fn in_turn(&self) -> Option<(bool, Message)> {
         let joined = |frags: &[Frag]| frags.iter().flat_map(|f| f.data.clone()).collect();
         if let Some(m) = self.finished.first() {
-            return Some((true, Message { ssn: 0, ppi: m[0].chunk.payload_type as u32, bytes: joined(m) }));
+            return Some((true, Message { ssn: 0, ppi: m[0].chunk.payload_type, bytes: joined(m) }));
         }
         let (ppi, set) = self.sets.first()?;
         let ssn = set[0].chunk.stream_sequence_number;
