@@ -165,7 +165,7 @@ function rt(line,    s, indent) {
     if (s ~ /^ghost use /) { import(s); return }
     if (s ~ /^(pub )?use /) { rt_use(s); return }
     if (s ~ /^(pub(\(crate\))? )?mod [a-z_0-9]+;$/) { rt_mod(s); return }
-    if (s ~ /^impl /) { split(s, words, " "); impl = words[2]; return }
+    if (s ~ /^impl[ <]/) { sub(/^impl(<[^>]*>)? */, "", s); sub(/[ <].*/, "", s); impl = s; return }
     if (s == "}" && impl != "") { impl = ""; return }
     if (s ~ /^(pub(\(crate\))? )?(extern "C" )?fn /) { fn(s, indent); return }
     if (s ~ /^(pub(\(crate\))? )?(struct|enum|const|type) /) { rt_type(s, indent); return }
@@ -259,10 +259,11 @@ function named(p, i, w,    head, tail, t) {
 
 function lost(p, name) { printf "%s: no %s there\n", p, name > "/dev/stderr"; missing = 1 }
 
-# an import's target as the item that it is: a constructor is its type
+# an import's target as the item that it is: a constructor is its type; a module that the kit makes of a source is no file, and counts as a library's
 function target(t,    a) {
     if (index(t, SUBSEP) == 0) return t
     split(t, a, SUBSEP)
+    if (a[1] ~ /\/proofs\// && !(a[1] in sources)) return a[1] "." a[2]
     if (!((a[1], a[2]) in at)) { lost(a[1], a[2]); return "" }
     return Place[at[a[1], a[2]]] "\003" Name[at[a[1], a[2]]]
 }

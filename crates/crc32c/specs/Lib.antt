@@ -1,0 +1,5 @@
+pub mod Crc
+pub mod Facts
+pub mod Parts
+pub mod Table
+pub mod Vectors
