@@ -37,8 +37,8 @@ extern "C" {
 
 #define SCTP_RECEIVE_OK (-1)            /* nothing was refused */
 #define SCTP_RECEIVE_UNSOUND 0          /* a queue or message whose numbers contradict its table, pool or buffer */
-#define SCTP_RECEIVE_NO_HEADER 1        /* fewer than 4 bytes lent */
-#define SCTP_RECEIVE_BAD_LENGTH 2       /* chunk length below 4 or above the bytes lent */
+#define SCTP_RECEIVE_NO_HEADER 1        /* fewer than 4 bytes lent, or left at a place of a packet */
+#define SCTP_RECEIVE_BAD_LENGTH 2       /* chunk length below 4 or above these bytes */
 #define SCTP_RECEIVE_OTHER_TYPE 3       /* not the chunk type asked for */
 #define SCTP_RECEIVE_SHORT_DATA 4       /* DATA length below 16 */
 #define SCTP_RECEIVE_SHORT_SACK 5       /* SACK length below 16, or below 16 + 4N + 4X */
@@ -47,8 +47,10 @@ extern "C" {
 #define SCTP_RECEIVE_FULL 8             /* no room is left in the table or the pool */
 #define SCTP_RECEIVE_TOO_LONG 9         /* writers: more than a chunk can hold, or lists of unequal length */
 #define SCTP_RECEIVE_NO_ROOM 10         /* write or take buffer, or a gap report list, too short */
-#define SCTP_RECEIVE_PAST_THE_LIST 11   /* list index at or past its count */
+#define SCTP_RECEIVE_PAST_THE_LIST 11   /* list index at or past its count; place below 12 or past the packet */
 #define SCTP_RECEIVE_BAD_FORWARD 12     /* FORWARD TSN length below 8, or not 8 plus a multiple of 4 */
+#define SCTP_RECEIVE_SHORT_PACKET 13    /* packet of fewer than 12 bytes */
+#define SCTP_RECEIVE_BAD_CHECKSUM 14    /* packet with a wrong checksum */
 #define SCTP_RECEIVE_NO_DATA 15         /* DATA without data: length 16, or nothing to write */
 
 /* ---- sizes ---- */
@@ -137,6 +139,29 @@ int32_t sctp_receive_forward_tsn_stream_at(const uint8_t *part, size_t part_len,
 int32_t sctp_receive_forward_tsn_marshal_to(uint8_t *out, size_t out_len, uint32_t new_cumulative_tsn,
                                             const uint16_t *identifiers, size_t identifiers_len,
                                             const uint16_t *sequences, size_t sequences_len, size_t *n);
+
+/* ---- packets: the common header of 12 bytes, with the checksum, and chunks behind it, each padded to a multiple of 4 bytes ----
+ * A walk over the chunks is the packet and a place in it, and C keeps both: it starts at SCTP_RECEIVE_FIRST_CHUNK and goes on at
+ * `*next` until nothing is found. The library's own walker keeps hold of the packet, so C has no call for it. */
+
+#define SCTP_RECEIVE_FIRST_CHUNK 12     /* the place of a packet's first chunk, behind the common header */
+
+/* CRC32c (RFC 4960, Appendix B). Of the text 123456789 it is 0xE3069283. Nothing is refused. */
+uint32_t sctp_receive_crc32c(const uint8_t *bytes, size_t bytes_len);
+
+/* Ports and verification tag of a packet, which is all of `raw`, if its checksum is right. Refuses 13, 14. The chunks are not looked at. */
+int32_t sctp_receive_packet_unmarshal(const uint8_t *raw, size_t raw_len,
+                                      uint16_t *source_port, uint16_t *destination_port, uint32_t *verification_tag);
+
+/* The chunk at a place of a packet: its bytes go from packet + at up to packet + *end, without padding, and `*next` is the place to go
+ * on at. Where the walk is over nothing is found. Refuses 11, 1, 2. The checksum is not looked at. */
+int32_t sctp_receive_packet_chunk_at(const uint8_t *packet, size_t packet_len, size_t at, bool *found, size_t *end, size_t *next);
+
+/* Writes a packet of these fields and of chunks lent back to back without padding: in order, each with zero padding, and the checksum.
+ * Refuses 1, 2 (of a chunk), 10. */
+int32_t sctp_receive_packet_marshal_to(uint8_t *out, size_t out_len,
+                                       uint16_t source_port, uint16_t destination_port, uint32_t verification_tag,
+                                       const uint8_t *chunks, size_t chunks_len, size_t *n);
 
 /* ---- the TSN queue: which TSNs came, in which order they stand, and which came twice ----
  * Its numbers: TSNs held, the sum of their data lengths, logged duplicates; the log; the table. Every call refuses 0. */

@@ -1,4 +1,5 @@
-//! Rows of DATA and SACK.
+//! Rows of DATA and SACK. Packets have none: nearly all of a packet's time is its checksum, for which sctp-proto has crc 3 go through 16 bytes at a time. Debian's crc is 1.8, of
+//! another interface, and the stand-in, which goes through one at a time, would be no fair side of a row.
 use crate::chunk::Chunk;
 use crate::chunk::chunk_payload_data::ChunkPayloadData;
 use crate::chunk::chunk_selective_ack::{ChunkSelectiveAck, GapAckBlock};

@@ -2,8 +2,9 @@
  * walk.c: the C interface, walked through once. An image goes out in four DATA chunks and arrives out of order, over the wrap of the
  * TSNs, one chunk twice. Each chunk is read and pushed to the TSN queue and to reassembly; the gap report goes into a SACK,
  * which is read back. Then the message is taken and read, whole and in pieces. Of the next message one piece comes, and the
- * sender gives it up: its FORWARD TSN is read and applied to both queues. Every answer is checked: the last line says how many,
- * and the program ends with 1 where one is not what documents 01 and 02 say.
+ * sender gives it up: its FORWARD TSN is read and applied to both queues. Last, a packet of two DATA chunks is written, read and
+ * walked. Every answer is checked: the last line says how many, and the program ends with 1 where one is not what documents 01
+ * and 02 say.
  */
 #include <stdio.h>
 #include <string.h>
@@ -282,6 +283,53 @@ static void give_up(void)
     same("and SSN 2 is expected", r.next_ssn, 2);
 }
 
+/* Writes a packet of the first chunk and a shorter one, which take 1 and 2 bytes of padding. */
+static size_t write_packet(uint8_t *out, size_t room)
+{
+    uint8_t chunks[2 * CHUNK];
+    size_t size = wire_size[0], n;
+    memcpy(chunks, wire[0], size);
+    same("a shorter chunk", sctp_receive_data_marshal_to(chunks + size, CHUNK, false, false, true, false, 7, STREAM, 2, loader,
+                                                         (const uint8_t *)image, 14, &n), SCTP_RECEIVE_OK);
+    size += n;
+    same("a packet without room", sctp_receive_packet_marshal_to(out, 12 + size, 5000, 5001, 0xDEADBEEFu, chunks, size, &n),
+         SCTP_RECEIVE_NO_ROOM);
+    same("half a chunk", sctp_receive_packet_marshal_to(out, room, 5000, 5001, 0xDEADBEEFu, chunks, size - 1, &n),
+         SCTP_RECEIVE_BAD_LENGTH);
+    same("a packet is written", sctp_receive_packet_marshal_to(out, room, 5000, 5001, 0xDEADBEEFu, chunks, size, &n), SCTP_RECEIVE_OK);
+    same("its byte count", (long long)n, (long long)(12 + size + 3));
+    return n;
+}
+
+/* Reads a packet that was written, and walks over its chunks: C keeps the place. */
+static void walk_packet(void)
+{
+    uint8_t raw[4 * CHUNK];
+    uint16_t source, destination;
+    uint32_t tag;
+    size_t size = write_packet(raw, sizeof raw), at = SCTP_RECEIVE_FIRST_CHUNK, end, next, chunks = 0;
+    bool found;
+    same("the check value", sctp_receive_crc32c((const uint8_t *)"123456789", 9), 0xE3069283u);
+    same("the packet is read", sctp_receive_packet_unmarshal(raw, size, &source, &destination, &tag), SCTP_RECEIVE_OK);
+    same("ports and tag", source == 5000 && destination == 5001 && tag == 0xDEADBEEFu, true);
+    printf("packet from %u to %u, tag %lx:", source, destination, (unsigned long)tag);
+    while (sctp_receive_packet_chunk_at(raw, size, at, &found, &end, &next) == SCTP_RECEIVE_OK && found) {
+        struct chunk c = read_chunk(raw + at, end - at);
+        printf(" TSN %lu at %lu", (unsigned long)c.tsn, (unsigned long)at);
+        same("TSN", c.tsn, chunks == 0 ? first_tsn : 7);
+        at = next;
+        chunks++;
+    }
+    printf(" (%lu bytes)\n", (unsigned long)size);
+    same("both chunks, up to the end", chunks == 2 && at == size, true);
+    same("at the end: false and 0", (long long)(found + end + next), 0);
+    same("a place in the header", sctp_receive_packet_chunk_at(raw, size, 11, &found, &end, &next), SCTP_RECEIVE_PAST_THE_LIST);
+    same("11 bytes", sctp_receive_packet_unmarshal(raw, 11, &source, &destination, &tag), SCTP_RECEIVE_SHORT_PACKET);
+    raw[size - 1] ^= 1;
+    same("a bit of padding altered", sctp_receive_packet_unmarshal(raw, size, &source, &destination, &tag), SCTP_RECEIVE_BAD_CHECKSUM);
+    same("and 0 beside it", (long long)source + destination + tag, 0);
+}
+
 /* What must be refused, and leaves all as it was. */
 static void refused(void)
 {
@@ -328,6 +376,7 @@ int main(void)
     take();
     read_message();
     give_up();
+    walk_packet();
     refused();
     printf("%u checks, %u wrong\n", checks, wrong);
     return wrong == 0 ? 0 : 1;

@@ -1,5 +1,4 @@
 // The calls of FORWARD TSN's chunk, read and written.
-use crate::writers;
 use answer_text::answer;
 use answer_text::answer::Answer;
 use answer_text::form;
@@ -45,5 +44,5 @@ pub fn marshal(call: &[u8], lent: &mut [u8]) -> Answer {
     let identifiers = lists::first_shorts(&identifiers, n);
     let sequences = lists::first_shorts(&sequences, m);
     let point = operands::u32_at(call, POINT);
-    writers::told(chunk_forward_tsn::marshal_to(lent, point, identifiers, sequences))
+    answer::wrote(chunk_forward_tsn::marshal_to(lent, point, identifiers, sequences))
 }

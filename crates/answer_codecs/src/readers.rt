@@ -14,18 +14,12 @@ pub fn call(call: &[u8]) -> Answer {
     match operands::u8_at(call, 0) {
         5 => header(raw),
         6 => data_chunk(raw),
-        12 => block_at(raw, index(call)),
-        13 => duplicate_at(raw, index(call)),
+        12 => block_at(raw, operands::index(call)),
+        13 => duplicate_at(raw, operands::index(call)),
         53 => forward::unmarshal(raw),
-        55 => forward::stream_at(raw, index(call)),
+        55 => forward::stream_at(raw, operands::index(call)),
         _ => sack(raw),
     }
-}
-
-// The number behind a raw.
-fn index(call: &[u8]) -> usize {
-    let behind = std::num::wrapping_add_usize(5, operands::size_at(call, 1));
-    operands::u64_at(call, behind) as usize
 }
 
 // Those that answer with a part of the bytes.

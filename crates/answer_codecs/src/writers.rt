@@ -7,7 +7,6 @@ use answer_text::lists;
 use answer_text::operands;
 use answer_text::operands::BYTES;
 use answer_text::operands::NUMBERS;
-use chunk::Marshalled;
 
 // All bytes of the room that the call says are shown behind the answer.
 pub fn call(call: &[u8], lent: &mut [u8; BYTES]) -> Answer {
@@ -26,19 +25,12 @@ fn marshal(call: &[u8], lent: &mut [u8], room: usize) -> Answer {
     }
 }
 
-pub fn told(written: Marshalled) -> Answer {
-    match written {
-        Marshalled::Bytes(n) => answer::one(answer::WROTE, n as u64),
-        Marshalled::Refused(k) => answer::refused(k),
-    }
-}
-
 fn data_marshal(call: &[u8], lent: &mut [u8]) -> Answer {
     let mut user = [0u8; BYTES];
     let n = operands::size_at(call, 19);
     lists::pattern(&mut user, n, operands::u8_at(call, 23));
     let chunk = operands::fields(operands::part(call, 6, 19));
-    told(chunk_payload_data::marshal_to(lent, chunk, operands::first(&user, n)))
+    answer::wrote(chunk_payload_data::marshal_to(lent, chunk, operands::first(&user, n)))
 }
 
 // The lists as they stand in the call.
@@ -64,5 +56,12 @@ fn sack_chunk(
 ) -> Answer {
     let cumulative = operands::u32_at(call, 6);
     let window = operands::u32_at(call, 10);
-    told(chunk_selective_ack::marshal_to(lent, cumulative, window, starts, ends, duplicates))
+    answer::wrote(chunk_selective_ack::marshal_to(
+        lent,
+        cumulative,
+        window,
+        starts,
+        ends,
+        duplicates,
+    ))
 }

@@ -1,6 +1,7 @@
 // What a call answers, before it is written: a word, the flags of a chunk, numbers, and a part of a lent buffer, which is not written here.
 use crate::out;
 use crate::out::SPACE;
+use chunk::Marshalled;
 use chunk_payload_data::ChunkPayloadData;
 
 pub struct Answer {
@@ -69,11 +70,15 @@ pub const STREAM: u8 = 22;
 
 pub const EMPTY_HANDED: u8 = 23;
 
+pub const PACKET: u8 = 24;
+
+pub const WALK: u8 = 25;
+
 // So many bytes, of which those from a low line on are none of the word.
 const WIDTH: usize = 15;
 
-const WORDS: [u8; 360] =
-    *b"yes____________no_____________done___________none___________refused________number_________tsn____________header_________data___________part___________wrote__________sack___________block__________chunk__________log____________blocks_________held___________whole__________message________piece__________queue__________forward________stream_________nothing in hand";
+const WORDS: [u8; 390] =
+    *b"yes____________no_____________done___________none___________refused________number_________tsn____________header_________data___________part___________wrote__________sack___________block__________chunk__________log____________blocks_________held___________whole__________message________piece__________queue__________forward________stream_________nothing in handpacket_________walk___________";
 
 // The letters of the flags, a space in front, each set of them in its five bytes.
 const LETTERS: [u8; 80] =
@@ -119,6 +124,14 @@ pub fn is(yes: bool) -> Answer {
     if yes { plain(YES) } else { plain(NO) }
 }
 
+// How many bytes were written.
+pub fn wrote(written: Marshalled) -> Answer {
+    match written {
+        Marshalled::Bytes(n) => one(WROTE, n as u64),
+        Marshalled::Refused(k) => refused(k),
+    }
+}
+
 // Flags, TSN, stream, SSN, identifier, and a size, where it is one of the numbers that are shown.
 pub fn fields(word: u8, count: u8, f: ChunkPayloadData, size: u64) -> Answer {
     let identifier = f.payload_type as u64;
@@ -144,7 +157,7 @@ pub fn write_fields(told: Answer, out: &mut [u8; SPACE], at: usize) -> usize {
 
 fn word(w: u8, out: &mut [u8; SPACE], at: usize) -> usize {
     let words = WORDS;
-    let from = WIDTH * (w % 24) as usize;
+    let from = WIDTH * (w % 26) as usize;
     out::text(out, at, out::trimmed(&words, from, from + WIDTH))
 }
 

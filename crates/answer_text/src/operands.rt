@@ -75,6 +75,12 @@ pub fn raw(call: &[u8]) -> &[u8] {
     part(call, 5, std::num::wrapping_add_usize(5, size_at(call, 1)))
 }
 
+// The number behind that raw.
+pub fn index(call: &[u8]) -> usize {
+    let behind = std::num::wrapping_add_usize(5, size_at(call, 1));
+    u64_at(call, behind) as usize
+}
+
 // The fields of a chunk that stand in front.
 pub fn fields(s: &[u8]) -> ChunkPayloadData {
     let tsn = u32_at(s, 1);

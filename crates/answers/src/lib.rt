@@ -15,12 +15,12 @@ use answer_text::out::SPACE;
 use answer_tsns::reports;
 use state::State;
 
-// By the call's number, who does it: the codecs, the TSN queue, the reassembly queue, the message in hand; or a list is written.
-const KINDS: [u8; 64] = *b"cllllcclccllccccttttttlltttttlttffffffflffffffffhhhhhclcctfhhhhh";
+// By the call's number, who does it: the codecs, the TSN queue, the reassembly queue, the message in hand, packets; or a list is written.
+const KINDS: [u8; 65] = *b"cllllcclccllccccttttttlltttttlttffffffflffffffffhhhhhclcctfpppllp";
 
 fn kind(call: &[u8]) -> u8 {
     let kinds = KINDS;
-    kinds[(operands::u8_at(call, 0) % 64) as usize]
+    kinds[(operands::u8_at(call, 0) % 65) as usize]
 }
 
 // A call, and the end of its line.
@@ -57,6 +57,7 @@ fn told(
 ) -> State {
     match kind(call) {
         b'c' => state::with_answer(state, answer_codecs::told(call, spare)),
+        b'p' => state::with_answer(state, answer_packets::told(call, spare)),
         b't' => tsn_queue(state, call, tsns),
         b'f' => {
             let fragments = reassembly(state.fragments, call, table, pool, buffer, spare);
@@ -135,6 +136,7 @@ fn listed(
             state,
             shown::stands(fragments.queue, out, state.at, table, pool),
         ),
+        62 | 63 => state::written(state, answer_packets::written(call, out, state.at)),
         _ => state::written(state, answer_codecs::written(call, out, state.at)),
     }
 }

@@ -132,18 +132,18 @@ pub record Wrote : Type 0 where
   pub gives : Marshalled
   pub out : List ℕ
 
-wrote-one : {w : Written} → Only (λ (o : Wrote). written (marshalTold (o .gives)) (o .out) ≡ w)
-wrote-one r s p q = let e = written-one p q in both (λ (g : Marshalled) (out : List ℕ). record { gives = g; out = out }) (e .0) (e .1)
+pub wrote : {w : Written} → Only (λ (o : Wrote). written (marshalTold (o .gives)) (o .out) ≡ w)
+wrote r s p q = let e = written-one p q in both (λ (g : Marshalled) (out : List ℕ). record { gives = g; out = out }) (e .0) (e .1)
 
 pub data-marshal-to-one : (fields : ChunkPayloadData) (user out : List ℕ) → Only (λ (o : Wrote). written (marshalTold (o .gives)) (o .out) ≡ dataWritten fields user out)
-data-marshal-to-one fields user out = wrote-one
+data-marshal-to-one fields user out = wrote
 
 pub sack-marshal-to-one : (cumulative window : ℕ) (starts ends duplicates out : List ℕ)
     → Only (λ (o : Wrote). written (marshalTold (o .gives)) (o .out) ≡ sackWritten cumulative window starts ends duplicates out)
-sack-marshal-to-one cumulative window starts ends duplicates out = wrote-one
+sack-marshal-to-one cumulative window starts ends duplicates out = wrote
 
 pub forward-marshal-to-one : (point : ℕ) (streams ssns out : List ℕ) → Only (λ (o : Wrote). written (marshalTold (o .gives)) (o .out) ≡ forwardWritten point streams ssns out)
-forward-marshal-to-one point streams ssns out = wrote-one
+forward-marshal-to-one point streams ssns out = wrote
 
 -- ── fields of a DATA chunk by their numbers ──
 

@@ -2,9 +2,11 @@ pub mod Only
 pub mod Told
 pub mod States
 pub mod Codecs
+pub mod Packets
 pub mod Queue
 pub mod Reassembly
 pub mod Hand
 pub mod C
 pub mod CCodecs
+pub mod CPackets
 pub mod CQueues

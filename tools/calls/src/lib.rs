@@ -124,6 +124,12 @@ calls! {
     56 FwdMarshal { room: u32, fill: u8, point: u32, streams: Vec<u16>, ssns: Vec<u16> }
     57 PqApplyForward { cumulative: u32, point: u32 }
     58 RqApplyForward { part: Vec<u8>, cumulative: u32, point: u32 }
+    59 Crc32c { raw: Vec<u8> }
+    60 Packet { raw: Vec<u8> }
+    61 PacketChunk { raw: Vec<u8>, place: u64 }
+    62 PacketBytes { raw: Vec<u8>, place: u64 }
+    63 PacketWalk { raw: Vec<u8> }
+    64 PacketMarshal { room: u32, fill: u8, source: u16, destination: u16, tag: u32, chunks: Vec<u8> }
 }
 
 impl Call {
@@ -133,6 +139,7 @@ impl Call {
             Call::DataMarshal { room, .. }
             | Call::SackMarshal { room, .. }
             | Call::FwdMarshal { room, .. }
+            | Call::PacketMarshal { room, .. }
             | Call::RqRead { room, .. }
             | Call::MRead { room, .. } => *room as usize <= BYTES_MOST,
             Call::PqGapAckBlocks { starts, ends, .. } => (*starts).max(*ends) as usize <= LIST_MOST,
@@ -266,6 +273,8 @@ mod tests {
             Call::FwdStreamAt { part: vec![0, 1, 0, 2], index: 1 << 40 },
             Call::RqApplyForward { part: vec![0, 1, 0, 2, 9], cumulative: 1, point: 1 << 31 },
             Call::PqApplyForward { cumulative: 3, point: 4 },
+            Call::PacketChunk { raw: vec![7; 13], place: 1 << 40 },
+            Call::PacketMarshal { room: 16, fill: 7, source: 1, destination: 2, tag: 3, chunks: vec![1, 0, 0, 4] },
         ];
         let mut stream = Vec::new();
         calls.iter().for_each(|c| c.encode(&mut stream));
@@ -278,7 +287,7 @@ mod tests {
 
     #[test]
     fn malformed_streams_are_none() {
-        for bytes in [&[0u8][..], &[15], &[59], &[255], &[1, 0, 0], &[5, 0, 1, 0, 65], &[30, 5, 0, 0, 0, 0, 0, 0, 0, 0, 0, 0]] {
+        for bytes in [&[0u8][..], &[15], &[65], &[255], &[1, 0, 0], &[5, 0, 1, 0, 65], &[30, 5, 0, 0, 0, 0, 0, 0, 0, 0, 0, 0]] {
             assert_eq!(Call::decode(&mut &bytes[..]), None, "{bytes:?}");
         }
     }
@@ -295,6 +304,16 @@ mod tests {
         assert_eq!(encoded(applied), [58, 0, 0, 0, 1, 7, 0, 0, 0, 1, 0, 0, 0, 2]);
         let written = Call::FwdMarshal { room: 1, fill: 2, point: 3, streams: vec![4], ssns: vec![5] };
         assert_eq!(encoded(written), [56, 0, 0, 0, 1, 2, 0, 0, 0, 3, 0, 1, 0, 4, 0, 1, 0, 5]);
+    }
+
+    #[test]
+    fn operands_of_packets_stand_in_the_order_of_the_table() {
+        let mut stream = Vec::new();
+        Call::PacketMarshal { room: 1, fill: 2, source: 3, destination: 4, tag: 5, chunks: vec![6] }.encode(&mut stream);
+        assert_eq!(stream, [64, 0, 0, 0, 1, 2, 0, 3, 0, 4, 0, 0, 0, 5, 0, 0, 0, 1, 6]);
+        stream.clear();
+        Call::PacketChunk { raw: vec![7], place: 8 }.encode(&mut stream);
+        assert_eq!(stream, [61, 0, 0, 0, 1, 7, 0, 0, 0, 0, 0, 0, 0, 8]);
     }
 
     #[test]

@@ -58,6 +58,12 @@ const EXPECTED: &[(&str, &str, &str)] = &[
     ("FwdMarshal", "wrote", "refused 9,refused 10"),
     ("PqApplyForward", "done", "refused 0"),
     ("RqApplyForward", "done", "refused 0"),
+    ("Crc32c", "number", ""),
+    ("Packet", "packet,refused 13,refused 14", ""),
+    ("PacketChunk", "", "chunk,none,refused 1,refused 2,refused 11"),
+    ("PacketBytes", "", "part,part -"),
+    ("PacketWalk", "none", "refused 1,refused 2,refused 11"),
+    ("PacketMarshal", "wrote", "refused 1,refused 2,refused 10"),
 ];
 
 /// What is counted of whole messages and runs.
@@ -96,7 +102,7 @@ pub struct Coverage {
 }
 
 /// How an answer is called: its first word, the number of a refusal too; all of the four words, the sign of a distance. A chunk or a message whose
-/// identifier the Rust would fold is called unnamed.
+/// identifier the Rust would fold is called unnamed; a walk is called by what stands at its last place, and an empty part of a packet apart.
 pub fn kind<'a>(call: &Call, line: &'a [u8]) -> &'a [u8] {
     match call {
         Call::Sna32 { .. } | Call::Sna16 { .. } => line,
@@ -108,6 +114,8 @@ pub fn kind<'a>(call: &Call, line: &'a [u8]) -> &'a [u8] {
         Call::DataUnmarshal { .. } if line.starts_with(b"data ") && !kept_at(5, line) => b"data unnamed",
         Call::PqPop { .. } | Call::PqGet { .. } if line.starts_with(b"chunk ") && !kept_at(5, line) => b"chunk unnamed",
         Call::RqRead { .. } if line.starts_with(b"message ") && !kept_at(2, line) => b"message unnamed",
+        Call::PacketBytes { .. } if line == b"part -" => line,
+        Call::PacketWalk { .. } => line.rsplit(|b| *b == b'|').next().and_then(|last| last.splitn(3, |b| *b == b' ').nth(2)).unwrap_or(line),
         _ => {
             let spaces = if line.starts_with(b"refused ") { 1 } else { 0 };
             let end = line.iter().enumerate().filter(|(_, b)| **b == b' ').map(|(i, _)| i).nth(spaces);
@@ -213,7 +221,7 @@ mod tests {
         for (_, name) in Call::NAMES {
             assert!(EXPECTED.iter().any(|(expected, ..)| expected == name), "{name}");
         }
-        for number in (0..=12).chain([15]) {
+        for number in 0..=15 {
             let refused = format!("refused {number}");
             assert!(expected(Mode::Out).any(|(_, _, answer)| answer == refused), "{refused}");
         }
@@ -228,6 +236,8 @@ mod tests {
         assert_eq!(kind(&Call::Sna16 { a: 0, b: 0 }, b"no yes no yes"), b"no yes no yes");
         assert_eq!([b"data - 1 2 3 58", b"data - 1 2 58 7"].map(|line| kind(&Call::DataUnmarshal { raw: vec![] }, line)), [&b"data"[..], b"data unnamed"]);
         assert_eq!([b"chunk - 1 2 3 51 7", b"chunk - 1 2 3 52 7"].map(|line| kind(&Call::PqGet { tsn: 1 }, line)), [&b"chunk"[..], b"chunk unnamed"]);
+        let walk = Call::PacketWalk { raw: vec![] };
+        assert_eq!([&b"walk | 12 none"[..], b"walk | 12 4 | 16 refused 2"].map(|line| kind(&walk, line)), [&b"none"[..], b"refused 2"]);
         let read = Call::RqRead { room: 1, fill: 0 };
         assert_eq!([&b"message 1 57 1 61"[..], b"message 57 1 1 61", b"none 00"].map(|line| kind(&read, line)), [&b"message"[..], b"message unnamed", b"none"]);
     }

@@ -1,4 +1,5 @@
 //! Differences between the rules and the Rust that docs/DIFFERENCES.md explains, where one call shows them.
+use crate::domain::packets::parted;
 use crate::domain::{folded, padding, without_data};
 use crate::model::forward::PAIRS;
 use calls::Call;
@@ -11,6 +12,9 @@ pub const ALL: &[(u8, &str)] = &[
     (8, "the distance half way"),
     (9, "bytes after the length"),
     (15, "pieces of the largest size"),
+    (19, "the common header with the first chunk"),
+    (20, "a last chunk without its padding"),
+    (22, "a chunk of another kind"),
 ];
 
 /// The number of the difference that explains why the Rust answers otherwise, if one does.
@@ -35,11 +39,23 @@ pub fn by(call: &Call, ours: &[u8], oracle: &[u8]) -> Option<u8> {
         | Call::SackDuplicates { raw }
         | Call::FwdUnmarshal { raw }
         | Call::FwdStreams { raw } => (9, padding(raw).iter().any(|b| *b != 0) && oracle == b"error ErrChunkHeaderPaddingNonZero"),
+        Call::Packet { .. } if parted(call) == Some(19) => (19, ours.starts_with(b"packet ") && FIRST_CHUNK.contains(&oracle)),
+        Call::PacketWalk { .. } if parted(call) == Some(20) => (20, ours.ends_with(b" none") && oracle == b"error ErrParseSctpChunkNotEnoughData"),
+        Call::PacketWalk { .. } if parted(call) == Some(22) => (22, ours.starts_with(b"walk ") && oracle == b"error ErrUnmarshalUnknownChunkType"),
         Call::MNext { most } => (15, *most > i64::MAX as u64 && oracle.starts_with(b"panic ")),
         _ => return None,
     };
     explained.then_some(number)
 }
+
+/// What the Rust says of a packet whose first chunk it does not take.
+const FIRST_CHUNK: [&[u8]; 5] = [
+    b"error ErrParseSctpChunkNotEnoughData",
+    b"error ErrUnmarshalUnknownChunkType",
+    b"error ErrChunkHeaderPaddingNonZero",
+    b"error ErrChunkValueNotLongEnough",
+    b"refused 2",
+];
 
 /// An answer `data FLAGS TSN STREAM SSN IDENTIFIER` with 58 for the last word.
 fn with_58(data: &[u8]) -> Vec<u8> {
@@ -60,6 +76,8 @@ fn written_with_58(wrote: &[u8]) -> Vec<u8> {
 #[cfg(test)]
 mod tests {
     use super::*;
+    use crate::model::fault::Wrong;
+    use crate::model::packets;
     use calls::{Data, Fields};
 
     #[test]
@@ -106,5 +124,18 @@ mod tests {
         let marshal = |size| Call::DataMarshal { room: 17, fill: 0, fields: Fields::default(), data: Data { size, seed: 0 } };
         let write = |size, ours: &[u8]| by(&marshal(size), ours, b"wrote 16 00");
         assert_eq!([write(0, b"refused 15 00"), write(0, b"refused 9 00"), write(1, b"refused 15 00")], [Some(6), None, None]);
+    }
+    #[test]
+    fn packets_that_the_rust_does_not_take_whole() {
+        let packet = |body: &[u8]| packets::packet(1, 2, 3, body, Wrong::default());
+        let header = |body: &[u8], oracle: &[u8]| by(&Call::Packet { raw: packet(body) }, b"packet 1 2 3", oracle);
+        assert_eq!([header(&[0], b"error ErrParseSctpChunkNotEnoughData"), header(&[10, 0, 0, 3], b"refused 2")], [Some(19); 2]);
+        assert_eq!([header(&[0], b"refused 14"), header(&[], b"refused 2"), header(&[10, 0, 0, 4], b"refused 2")], [None; 3]);
+        let walk = |body: &[u8], ours: &[u8], oracle: &[u8]| by(&Call::PacketWalk { raw: packet(body) }, ours, oracle);
+        let (short, other) = (b"error ErrParseSctpChunkNotEnoughData", b"error ErrUnmarshalUnknownChunkType");
+        assert_eq!(walk(&[10, 0, 0, 5, 97], b"walk | 12 5 | 17 none", short), Some(20));
+        assert_eq!(walk(&[255, 0, 0, 4], b"walk | 12 4 | 16 none", other), Some(22));
+        assert_eq!([walk(&[10, 0, 0, 5, 97], b"walk | 12 refused 1", short), walk(&[10, 0, 0, 4], b"walk | 12 4 | 16 none", short)], [None; 2]);
+        assert_eq!([walk(&[255, 0, 0, 4], b"walk | 12 4 | 16 none", short), walk(&[10, 0, 0, 5, 97], b"walk | 12 5 | 17 none", other)], [None; 2]);
     }
 }

@@ -1,4 +1,6 @@
 //! The calls of docs/DIFFERENCES.md, each as the fewest that show how ours and the Rust part. `tools/oracle/tests` has the Rust's answers to the same.
+use crate::model::fault::Wrong;
+use crate::model::packets;
 use calls::{B, Call, Data, E, Fields, U};
 
 fn fields(flags: u8, tsn: u32, ssn: u16) -> Fields {
@@ -82,6 +84,25 @@ fn all_the_way_round() -> Vec<Call> {
     [fresh(sets), fresh(tsns)].concat()
 }
 
+/// 19 to 22: packets that the Rust does not take whole, or steps through otherwise.
+fn packets() -> Vec<Call> {
+    let bodies: [&[u8]; 8] = [
+        &[],
+        &[0],
+        &[10, 0, 0, 3],
+        &[10, 0, 0, 5, 97],
+        &[10, 0, 0, 5, 97, 0, 0, 0],
+        &[11, 0, 0, 8, 11, 0, 0, 4],
+        &[3, 0, 0, 20, 0, 0, 0, 1, 0, 0, 0, 2, 0, 0, 0, 0, 11, 0, 0, 4],
+        &[255, 0, 0, 4],
+    ];
+    let of = |body: &&[u8]| {
+        let raw = packets::packet(5_000, 5_001, 1, body, Wrong::default());
+        [Call::Packet { raw: raw.clone() }, Call::PacketWalk { raw }]
+    };
+    bodies.iter().flat_map(of).collect()
+}
+
 pub fn calls() -> Vec<Call> {
-    [duplicates(), identifiers(), without_data(), half_way(), bytes_and_pieces(), all_the_way_round()].concat()
+    [duplicates(), identifiers(), without_data(), half_way(), bytes_and_pieces(), all_the_way_round(), packets()].concat()
 }

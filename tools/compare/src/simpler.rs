@@ -41,9 +41,14 @@ fn operands(call: &mut Call) -> Vec<Operand<'_>> {
         | Call::SackBlocks { raw }
         | Call::SackDuplicates { raw }
         | Call::FwdUnmarshal { raw }
-        | Call::FwdStreams { raw } => vec![Bytes(raw)],
+        | Call::FwdStreams { raw }
+        | Call::Crc32c { raw }
+        | Call::Packet { raw }
+        | Call::PacketWalk { raw } => vec![Bytes(raw)],
         Call::SackBlockAt { part, index } | Call::SackDuplicateAt { part, index } | Call::FwdStreamAt { part, index } => vec![Bytes(part), U64(index)],
         Call::RqApplyForward { part, cumulative, point } => vec![Bytes(part), U32(cumulative), U32(point)],
+        Call::PacketChunk { raw, place } | Call::PacketBytes { raw, place } => vec![Bytes(raw), U64(place)],
+        Call::PacketMarshal { room, fill, source, destination, tag, chunks } => vec![Bytes(chunks), U16(source), U16(destination), U32(tag), U32(room), U8(fill)],
         Call::FwdMarshal { room, fill, point, .. } => vec![U32(room), U8(fill), U32(point)],
         Call::DataMarshal { room, fill, fields, data } => of_fields(fields).chain(of_data(data)).chain([U32(room), U8(fill)]).collect(),
         Call::SackMarshal { room, fill, cumulative, window, .. } => vec![U32(room), U8(fill), U32(cumulative), U32(window)],

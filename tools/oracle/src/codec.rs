@@ -3,6 +3,7 @@ use crate::chunk::Chunk;
 use crate::chunk::chunk_header::{CHUNK_HEADER_SIZE, ChunkHeader};
 use crate::chunk::chunk_payload_data::ChunkPayloadData;
 use crate::chunk::chunk_selective_ack::{ChunkSelectiveAck, GapAckBlock};
+use crate::error::Result;
 use crate::shown;
 use crate::util::*;
 use bytes::Bytes;
@@ -57,9 +58,13 @@ pub fn read<T: Chunk>(raw: &[u8], line: &mut Vec<u8>, show: impl FnOnce(T, &mut 
     shown::result(T::unmarshal(&Bytes::copy_from_slice(raw)), line, show);
 }
 
-/// The chunk's bytes at the front of a lent buffer. The Rust's own buffer grows, so it has no answer for one that is too short.
 pub fn write(chunk: &impl Chunk, room: u32, fill: u8, line: &mut Vec<u8>) {
-    shown::result(chunk.marshal(), line, |written, line| {
+    put(chunk.marshal(), room, fill, line)
+}
+
+/// What was written, at the front of a lent buffer. The Rust's own buffer grows, so it has no answer for one that is too short.
+pub fn put(written: Result<Bytes>, room: u32, fill: u8, line: &mut Vec<u8>) {
+    shown::result(written, line, |written, line| {
         let mut buffer = shown::lent(room, fill);
         match buffer.get_mut(..written.len()) {
             Some(front) => front.copy_from_slice(&written),

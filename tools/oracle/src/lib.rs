@@ -5,6 +5,7 @@ include!(concat!(env!("OUT_DIR"), "/sctp.rs"));
 
 mod codec;
 mod forward_tsn;
+mod packets;
 mod panics;
 mod reassembly;
 mod shown;
@@ -40,7 +41,8 @@ impl Oracle {
             48..53 => self.reassembly.answer_in_hand(call, line),
             53..57 => forward_tsn::answer(call, line),
             57 => self.tsn_queue.answer(call, line),
-            58.. => self.reassembly.answer(call, line),
+            58 => self.reassembly.answer(call, line),
+            59.. => packets::answer(call, line),
         }
     }
 

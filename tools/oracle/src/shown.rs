@@ -21,7 +21,7 @@ pub fn result<T>(result: Result<T>, line: &mut Vec<u8>, show: impl FnOnce(T, &mu
     }
 }
 
-/// Document 01's number for an error, 12 document 02's, or the name of one that has none.
+/// Document 01's number for an error, 12 to 14 document 02's, or the name of one that has none.
 pub fn refused(error: &Error, line: &mut Vec<u8>) {
     let number = match error {
         Error::ErrChunkHeaderTooSmall => 1,
@@ -32,6 +32,8 @@ pub fn refused(error: &Error, line: &mut Vec<u8>) {
         Error::ErrInboundPacketTooLarge => 6,
         Error::ErrShortBuffer => 7,
         Error::ErrChunkTooShort => 12,
+        Error::ErrPacketRawTooSmall => 13,
+        Error::ErrChecksumMismatch => 14,
         other => return words!(line, "error", format!("{other:?}").split([' ', '(']).next().unwrap_or_default()),
     };
     line::refused(number, line);

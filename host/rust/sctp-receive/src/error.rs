@@ -8,9 +8,9 @@ use core::fmt;
 pub enum Error {
     /// 0: a queue or message whose numbers contradict its table, pool or buffer. The queues of this crate own theirs, and are proved to stay sound.
     Unsound = 0,
-    /// 1: fewer than 4 bytes lent.
+    /// 1: fewer than 4 bytes lent, or left at a place of a packet.
     NoHeader = 1,
-    /// 2: chunk length below 4 or above the bytes lent.
+    /// 2: chunk length below 4 or above these bytes.
     BadLength = 2,
     /// 3: not the type asked for (sctp-proto: `ErrChunkTypeNotPayloadData`, `ErrChunkTypeNotSack`, `ErrChunkTypeNotForwardTsn`).
     ChunkTypeNotAskedFor = 3,
@@ -28,17 +28,21 @@ pub enum Error {
     TooLong = 9,
     /// 10: write or take buffer, or a gap report list, too short.
     NoRoom = 10,
-    /// 11: list index at or past its count.
+    /// 11: list index at or past its count; place below 12 or past the packet.
     PastTheList = 11,
     /// 12: FORWARD TSN length below 8, or not 8 plus a multiple of 4 (`ErrChunkTooShort`).
     ChunkTooShort = 12,
+    /// 13: a packet of fewer than 12 bytes (`ErrPacketRawTooSmall`).
+    PacketRawTooSmall = 13,
+    /// 14: a packet with a wrong checksum (`ErrChecksumMismatch`).
+    ChecksumMismatch = 14,
     /// 15: DATA without data, read or written (RFC 4960 section 3.3.1 wants a byte at least).
     NoUserData = 15,
 }
 
 impl Error {
     /// Every refusal, in the order of their numbers.
-    pub const ALL: [Error; 14] = [
+    pub const ALL: [Error; 16] = [
         Error::Unsound,
         Error::NoHeader,
         Error::BadLength,
@@ -52,6 +56,8 @@ impl Error {
         Error::NoRoom,
         Error::PastTheList,
         Error::ChunkTooShort,
+        Error::PacketRawTooSmall,
+        Error::ChecksumMismatch,
         Error::NoUserData,
     ];
 
@@ -81,8 +87,10 @@ impl fmt::Display for Error {
             Error::Full => "no room is left",
             Error::TooLong => "longer than a chunk can be, or lists of unequal length",
             Error::NoRoom => "the buffer or list is too short",
-            Error::PastTheList => "past the end of the list",
+            Error::PastTheList => "past the end of the list, or no place of the packet",
             Error::ChunkTooShort => "FORWARD TSN shorter than 8 bytes, or with a part of a pair",
+            Error::PacketRawTooSmall => "a packet shorter than 12 bytes",
+            Error::ChecksumMismatch => "the packet's checksum is wrong",
             Error::NoUserData => "DATA without data",
         })
     }

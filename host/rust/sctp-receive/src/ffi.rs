@@ -6,6 +6,8 @@
 use crate::chunk::ChunkPayloadData;
 
 pub(crate) mod forward_tsn;
+pub(crate) mod hand;
+pub(crate) mod packet;
 
 /// TSNs that a [`PayloadQueue`](crate::PayloadQueue) holds.
 pub const TSNS: usize = 256;
@@ -91,6 +93,13 @@ unsafe extern "C" {
         sequence: &mut u16) -> i32;
     fn sctp_receive_forward_tsn_marshal_to(out: *mut u8, out_len: usize, new_cumulative_tsn: u32, identifiers: *const u16,
         identifiers_len: usize, sequences: *const u16, sequences_len: usize, n: &mut usize) -> i32;
+    fn sctp_receive_crc32c(bytes: *const u8, bytes_len: usize) -> u32;
+    fn sctp_receive_packet_unmarshal(raw: *const u8, raw_len: usize, source_port: &mut u16, destination_port: &mut u16,
+        verification_tag: &mut u32) -> i32;
+    fn sctp_receive_packet_chunk_at(packet: *const u8, packet_len: usize, at: usize, found: &mut bool, end: &mut usize,
+        next: &mut usize) -> i32;
+    fn sctp_receive_packet_marshal_to(out: *mut u8, out_len: usize, source_port: u16, destination_port: u16, verification_tag: u32,
+        chunks: *const u8, chunks_len: usize, n: &mut usize) -> i32;
     fn sctp_receive_payload_queue_get_gap_ack_blocks(count: usize, n_bytes: usize, dups: usize, dup_tsn: &[u32; LOG],
         table: &[u32; TSN_WORDS], cumulative: u32, starts: *mut u16, starts_len: usize, ends: *mut u16, ends_len: usize,
         n: &mut usize) -> i32;
@@ -364,33 +373,4 @@ pub(crate) fn reassembly_queue_get_num_bytes(q: &Numbers, table: &[u32; FRAGMENT
     unsafe {
         sctp_receive_reassembly_queue_get_num_bytes(si, next, max, q.finished, q.unordered, q.ordered, q.n_bytes, table, pool, pool_len, n)
     }
-}
-
-// ---- the message in hand ----
-
-#[inline]
-pub(crate) fn chunks_len(m: &Hand, buffer: &[u8], n: &mut usize) -> i32 {
-    // SAFETY: pointer and length are one slice's.
-    unsafe { sctp_receive_chunks_len(m.bytes, m.position, m.given, buffer.as_ptr(), buffer.len(), n) }
-}
-
-#[inline]
-pub(crate) fn chunks_is_empty(m: &Hand, buffer: &[u8], is: &mut bool) -> i32 {
-    // SAFETY: pointer and length are one slice's.
-    unsafe { sctp_receive_chunks_is_empty(m.bytes, m.position, m.given, buffer.as_ptr(), buffer.len(), is) }
-}
-
-#[inline]
-pub(crate) fn chunks_read(m: &Hand, buffer: &[u8], out: &mut [u8], n: &mut usize) -> i32 {
-    let (buffer, buffer_len) = (buffer.as_ptr(), buffer.len());
-    // SAFETY: each pointer and the length after it are one slice's, and `out` is lent to us alone.
-    unsafe { sctp_receive_chunks_read(m.bytes, m.position, m.given, buffer, buffer_len, out.as_mut_ptr(), out.len(), n) }
-}
-
-#[inline]
-pub(crate) fn chunks_next(m: &mut Hand, buffer: &[u8], most: usize, found: &mut bool, start: &mut usize, size: &mut usize) -> i32 {
-    let (buffer, buffer_len) = (buffer.as_ptr(), buffer.len());
-    let (bytes, position, given) = (&mut m.bytes, &mut m.position, &mut m.given);
-    // SAFETY: pointer and length are one slice's.
-    unsafe { sctp_receive_chunks_next(bytes, position, given, buffer, buffer_len, most, found, start, size) }
 }

@@ -1,6 +1,6 @@
-//! The receive part of SCTP for Rust programs, over the proved library `libsctp_receive.a`: DATA, SACK and FORWARD TSN chunks, the TSN queue with its gap
-//! report, reassembly of one stream, and the message in hand. Names are those of sctp-proto. Each call is proved, in Rattle, to answer and to leave exactly what
-//! documents 01 and 02 say; this crate owns the tables, lends them to the library, and adds no rule of its own.
+//! The receive part of SCTP for Rust programs, over the proved library `libsctp_receive.a`: packets with their checksum, DATA, SACK and FORWARD TSN chunks, the
+//! TSN queue with its gap report, reassembly of one stream, and the message in hand. Names are those of sctp-proto. Each call is proved, in Rattle, to answer
+//! and to leave exactly what documents 01 and 02 say; this crate owns the tables, lends them to the library, and adds no rule of its own.
 //!
 //! No allocation, no dependency, no `std`; all `unsafe` stands in one private module, `ffi`.
 //!
@@ -42,6 +42,7 @@ mod chunk;
 mod error;
 #[allow(unsafe_code)]
 mod ffi;
+mod packet;
 mod payload_queue;
 mod reassembly_queue;
 pub mod serial;
@@ -54,5 +55,6 @@ pub use chunk::{
 };
 pub use error::Error;
 pub use ffi::{BYTES, FRAGMENTS, LOG, TSNS};
+pub use packet::{CommonHeader, PacketChunks, crc32c};
 pub use payload_queue::{Duplicates, PayloadQueue, Queued};
 pub use reassembly_queue::{Chunks, ReassemblyQueue};

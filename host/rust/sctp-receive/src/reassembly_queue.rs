@@ -119,7 +119,7 @@ impl<'a> Chunks<'a> {
     #[inline]
     pub fn len(&self) -> usize {
         let mut n = 0;
-        never_refused(ffi::chunks_len(&self.hand, self.buffer, &mut n));
+        never_refused(ffi::hand::len(&self.hand, self.buffer, &mut n));
         n
     }
 
@@ -127,7 +127,7 @@ impl<'a> Chunks<'a> {
     #[inline]
     pub fn is_empty(&self) -> bool {
         let mut is = false;
-        never_refused(ffi::chunks_is_empty(&self.hand, self.buffer, &mut is));
+        never_refused(ffi::hand::is_empty(&self.hand, self.buffer, &mut is));
         is
     }
 
@@ -135,7 +135,7 @@ impl<'a> Chunks<'a> {
     #[inline]
     pub fn read(&self, buf: &mut [u8]) -> Result<usize, Error> {
         let mut n = 0;
-        Error::check(ffi::chunks_read(&self.hand, self.buffer, buf, &mut n))?;
+        Error::check(ffi::hand::read(&self.hand, self.buffer, buf, &mut n))?;
         Ok(n)
     }
 
@@ -145,7 +145,7 @@ impl<'a> Chunks<'a> {
     #[inline]
     pub fn next(&mut self, max_length: usize) -> Option<&'a [u8]> {
         let (mut found, mut start, mut size) = (false, 0, 0);
-        never_refused(ffi::chunks_next(&mut self.hand, self.buffer, max_length, &mut found, &mut start, &mut size));
+        never_refused(ffi::hand::next(&mut self.hand, self.buffer, max_length, &mut found, &mut start, &mut size));
         found.then(|| &self.buffer[start..start + size])
     }
 }

@@ -137,13 +137,13 @@ fn message_calls() {
     for hand in [long, past] {
         let (mut m, buffer, mut out) = (hand.clone(), [1; 8], [2; 16]);
         let (mut n, mut is, mut found, mut start, mut size) = (9, true, true, 9, 9);
-        assert_eq!(ffi::chunks_len(&m, &buffer, &mut n), 0);
+        assert_eq!(ffi::hand::len(&m, &buffer, &mut n), 0);
         assert_eq!(core::mem::replace(&mut n, 9), 0);
-        assert_eq!(ffi::chunks_is_empty(&m, &buffer, &mut is), 0);
+        assert_eq!(ffi::hand::is_empty(&m, &buffer, &mut is), 0);
         assert!(!is);
-        assert_eq!(ffi::chunks_read(&m, &buffer, &mut out, &mut n), 0);
+        assert_eq!(ffi::hand::read(&m, &buffer, &mut out, &mut n), 0);
         assert_eq!((n, out), (0, [2; 16]));
-        assert_eq!(ffi::chunks_next(&mut m, &buffer, 4, &mut found, &mut start, &mut size), 0);
+        assert_eq!(ffi::hand::next(&mut m, &buffer, 4, &mut found, &mut start, &mut size), 0);
         assert_eq!((found, start, size, m), (false, 0, 0, hand));
     }
 }

@@ -176,12 +176,12 @@ fn header_text() -> String {
 #[test]
 fn every_function_is_declared_as_it_is_written() {
     let (rattle, ffi, header) = (rattle(), ffi(&text("host/rust/sctp-receive/src/ffi.rs")), header(&header_text()));
-    assert_eq!(rattle.len(), 50, "{:?}", rattle.keys());
+    assert_eq!(rattle.len(), 54, "{:?}", rattle.keys());
     for (name, written) in &rattle {
         assert_eq!(Some(written), ffi.get(name), "src/ffi.rs: {name}");
         assert_eq!(Some(written), header.get(name), "sctp_receive.h: {name}");
     }
-    assert_eq!((ffi.len(), header.len()), (50, 50));
+    assert_eq!((ffi.len(), header.len()), (54, 54));
 }
 
 /// A wrong declaration is seen: two parameters changed about, one left out, another width, another size.
@@ -197,6 +197,8 @@ fn wrong_declarations_are_seen() {
         ("uint16_t *start, uint16_t *end", "uint16_t *start, uint32_t *end"),
         ("const uint32_t table[SCTP_RECEIVE_FRAGMENT_WORDS]", "const uint32_t table[SCTP_RECEIVE_TSN_WORDS]"),
         ("uint8_t *buffer, size_t buffer_len, bool *found", "const uint8_t *buffer, size_t buffer_len, bool *found"),
+        ("uint16_t *source_port, uint16_t *destination_port", "uint16_t *destination_port, uint16_t *source_port"),
+        ("uint32_t sctp_receive_crc32c(", "int32_t sctp_receive_crc32c("),
         ("int32_t sctp_receive_chunks_len(", "uint32_t sctp_receive_chunks_len("),
     ] {
         assert!(right.contains(is), "{is}");
@@ -238,6 +240,9 @@ fn sizes_and_numbers() {
         "NO_ROOM",
         "PAST_THE_LIST",
         "BAD_FORWARD",
+        "SHORT_PACKET",
+        "BAD_CHECKSUM",
+        "NO_DATA",
     ];
     for (number, name) in (-1..).zip(refusals) {
         assert_eq!(macros[&format!("SCTP_RECEIVE_{name}")], number, "{name}");

@@ -247,6 +247,6 @@ fn run_only() {
 #[test]
 fn errors_have_the_documents_numbers() {
     let numbers: Vec<i32> = Error::ALL.iter().map(|e| *e as i32).collect();
-    assert_eq!(numbers, [0, 1, 2, 3, 4, 5, 6, 7, 8, 9, 10, 11, 12, 15]);
+    assert_eq!(numbers, (0..=15).collect::<Vec<_>>());
     assert!(Error::ALL.iter().all(|e| !e.to_string().is_empty()));
 }

@@ -42,7 +42,7 @@ pub fn serials(m: &mut Maker) {
 }
 
 /// Fields to be written. An identifier without a name is difference 5, of which mode `in` has a few.
-fn fields(m: &mut Maker) -> Fields {
+pub fn fields(m: &mut Maker) -> Fields {
     let identifier = if m.rng.one_in(9) { unnamed(&mut m.rng) } else { m.identifier() };
     let rng = &mut m.rng;
     Fields {
@@ -64,18 +64,18 @@ fn size(rng: &mut Rng) -> u64 {
     }
 }
 
-fn entries(rng: &mut Rng) -> usize {
+pub fn entries(rng: &mut Rng) -> usize {
     match rng.below(1_000) {
         0..10 => rng.within(7, 120) as usize,
         _ => rng.below(6) as usize,
     }
 }
 
-fn shorts(rng: &mut Rng, n: usize) -> Vec<u16> {
+pub fn shorts(rng: &mut Rng, n: usize) -> Vec<u16> {
     (0..n).map(|_| rng.number() as u16).collect()
 }
 
-fn words(rng: &mut Rng, n: usize) -> Vec<u32> {
+pub fn words(rng: &mut Rng, n: usize) -> Vec<u32> {
     (0..n).map(|_| rng.number() as u32).collect()
 }
 
@@ -165,7 +165,7 @@ pub fn reading(which: u64, raw: Vec<u8>) -> Call {
 }
 
 /// Room for so many bytes: as much, or more; outside the domain less too.
-fn room(m: &mut Maker, bytes: u64) -> u32 {
+pub fn room(m: &mut Maker, bytes: u64) -> u32 {
     let room = match m.rng.below(6) {
         0..3 => bytes,
         3..5 => bytes + m.rng.below(9),

@@ -3,6 +3,7 @@ mod codec;
 mod forge;
 mod forward;
 mod hand;
+mod packets;
 mod plan;
 mod reassembly;
 mod short;
@@ -87,7 +88,8 @@ impl Maker {
         match self.rng.below(100) {
             0..18 => codec::run(self),
             18..22 => codec::serials(self),
-            22..48 => tsns::run(self),
+            22..30 => packets::run(self),
+            30..52 => tsns::run(self),
             _ => reassembly::run(self),
         }
     }
@@ -128,10 +130,10 @@ impl Maker {
         let mut tail = Vec::new();
         match self.rng.below(6) {
             0 => return,
-            1 => tail.push(self.rng.pick(&[0, 15, 42, 47, 59, 255])),
-            2 => tail.extend([self.rng.pick(&[5, 53, 58]), 0, 1, 0, 65]),
+            1 => tail.push(self.rng.pick(&[0, 15, 42, 47, 65, 255])),
+            2 => tail.extend([self.rng.pick(&[5, 53, 58, 59, 63]), 0, 1, 0, 65]),
             3 => tail.extend([self.rng.pick(&[30, 40, 52]), 10, 0, 0, 0, 0, 0, 0, 0, 0, 0, 0]),
-            4 => tail.extend([self.rng.pick(&[35, 56]), 0, 1, 0, 65, 7]),
+            4 => tail.extend([self.rng.pick(&[35, 56, 64]), 0, 1, 0, 65, 7]),
             _ => {
                 let last = self.batch.calls.iter().rev().find(|call| !matches!(call, Call::PqNew {})).expect("a call");
                 last.encode(&mut tail);

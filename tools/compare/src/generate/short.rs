@@ -1,9 +1,12 @@
 //! Short inputs, all of them, and each length about a boundary: a fixed list, of which every batch has its part.
 use super::Maker;
 use super::codec::{READERS, reading};
+use super::packets::put;
 use crate::Mode;
 use crate::domain;
+use crate::model::fault::Wrong;
 use crate::model::forward::PAIRS;
+use crate::model::packets;
 use crate::rng::Rng;
 use calls::{Call, Data, Fields};
 
@@ -25,24 +28,34 @@ const WRITTEN: u64 = 41 * 61 + 7 * 7 * 71 + 7 * 41;
 /// Chunks and lists about their greatest length.
 const LONG: u64 = READERS * 41 + 21 * 3 + 5 * 3 + 5;
 
-pub const COUNT: u64 = UP_TO_TWO + THREE + FOUR + LENGTHS + SACKS + SSNS + WRITTEN + LONG;
+/// Sums of 0 to 300 bytes; packets of 0 to 40 bytes whose checksum is right, and with one bit wrong in each byte.
+const SUMS: u64 = 301 + 41 * 41;
+/// Packets of 0 to 26 bytes, places 0 to 28, a length of 0 to 15 at the place: the chunk there, and its bytes.
+const PLACES: u64 = 2 * 27 * 29 * 16;
+/// Walks over 0 to 18 bytes behind the common header, with lengths of 0 to 11 and 0 to 8.
+const WALKS: u64 = 19 * 12 * 9;
+/// Packets of 0 to 12 lent bytes, with lengths of 0 to 9 and 0 to 9, into 0 to 29.
+const PACKETS: u64 = 13 * 10 * 10 * 30;
+
+pub const COUNT: u64 = UP_TO_TWO + THREE + FOUR + LENGTHS + SACKS + SSNS + WRITTEN + LONG + SUMS + PLACES + WALKS + PACKETS;
 
 /// The k-th short input, in an order that mixes them; the list starts again behind its end. In mode `in` what is outside the domain is left out, but for
 /// numbers half way apart, which difference 8 explains, lists that are too long, which 3 does, DATA without data, which 6 does, and identifiers without a name,
-/// which 5 does.
+/// which 5 does, and packets, which 19, 20 and 22 do.
 pub fn item(m: &mut Maker, k: u64) {
     let call = numbered((k % COUNT).wrapping_mul(1_000_003) % COUNT, m.mode);
     match call {
         Call::Sna16 { .. } => m.put(call),
         Call::FwdMarshal { ref streams, .. } if streams.len() > PAIRS => m.put(call),
         Call::SackMarshal { ref starts, ref duplicates, .. } if starts.len() + duplicates.len() > 16_379 => m.put(call),
+        Call::Packet { .. } | Call::PacketWalk { .. } => put(m, call),
         _ if domain::without_data(&call) || domain::folded(&call) => m.put(call),
         _ => _ = m.call(call),
     }
 }
 
 fn numbered(mut k: u64, mode: Mode) -> Call {
-    let parts: [(u64, fn(u64, Mode) -> Call); 8] = [
+    let parts: [(u64, fn(u64, Mode) -> Call); 12] = [
         (UP_TO_TWO, |k, _| reading(k % READERS, up_to_two(k / READERS))),
         (THREE, |k, _| reading(k % READERS, some_bytes(k / READERS, 3))),
         (FOUR, |k, mode| reading(k % READERS, padded(some_bytes(k / READERS, 4), mode))),
@@ -51,6 +64,10 @@ fn numbered(mut k: u64, mode: Mode) -> Call {
         (SSNS, |k, _| Call::Sna16 { a: if k < 65_536 { 0 } else { 40_000 }, b: k as u16 }),
         (WRITTEN, |k, _| written(k)),
         (LONG, long),
+        (SUMS, |k, _| summed(k)),
+        (PLACES, |k, _| at_a_place(k)),
+        (WALKS, |k, _| walked(k)),
+        (PACKETS, |k, _| packet_of(k)),
     ];
     for (size, part) in parts {
         if k < size {
@@ -159,4 +176,68 @@ fn long(k: u64, mode: Mode) -> Call {
     let entries = 16_377 + k / 3;
     let n = [0, entries, entries / 2][(k % 3) as usize];
     sack_of(n, entries - n, 65_600)
+}
+
+/// A packet of that many bytes, its checksum right where it has one.
+fn packet(rng: &mut Rng, lent: u64) -> Vec<u8> {
+    let body: Vec<u8> = (12..lent).map(|_| rng.byte()).collect();
+    let mut raw = packets::packet(rng.number() as u16, rng.number() as u16, rng.number() as u32, &body, Wrong::default());
+    raw.truncate(lent as usize);
+    raw
+}
+
+fn summed(k: u64) -> Call {
+    let mut rng = Rng::new(k);
+    let Some(k) = k.checked_sub(301) else { return Call::Crc32c { raw: (0..k).map(|_| rng.byte()).collect() } };
+    let (lent, wrong) = (k % 41, k / 41);
+    let mut raw = packet(&mut rng, lent);
+    // The first chunk has a good header, of COOKIE ACK, where that fits.
+    if let Some(first) = raw.get_mut(12..16) {
+        first.copy_from_slice(&[11, 0, 0, 4]);
+        raw = packets::packet(1, 2, 3, &raw[12..], Wrong::default());
+    }
+    if let Some(byte) = wrong.checked_sub(1).and_then(|at| raw.get_mut(at as usize)) {
+        *byte ^= 1 << (k % 8);
+    }
+    Call::Packet { raw }
+}
+
+/// Bytes with these lengths of chunks, the first one's at a place and the second's behind the first chunk and this much more.
+fn laid(rng: &mut Rng, lent: usize, first: (usize, u64), second: Option<(u64, usize)>) -> Vec<u8> {
+    let mut raw: Vec<u8> = (0..lent + 4).map(|_| rng.byte()).collect();
+    let mut lay = |place: usize, length: u64| {
+        if let Some(header) = raw.get_mut(place..place + 4) {
+            header.copy_from_slice(&[10, 0, 0, length as u8]);
+        }
+    };
+    lay(first.0, first.1);
+    if let Some((length, behind)) = second {
+        lay(behind, length);
+    }
+    raw.truncate(lent);
+    raw
+}
+
+fn at_a_place(k: u64) -> Call {
+    let (which, lent, place, length) = (k % 2, k / 2 % 27, k / (2 * 27) % 29, k / (2 * 27 * 29));
+    let raw = laid(&mut Rng::new(k), lent as usize, (place as usize, length), None);
+    if which == 0 { Call::PacketChunk { raw, place } } else { Call::PacketBytes { raw, place } }
+}
+
+fn walked(k: u64) -> Call {
+    let (left, first, second) = (k % 19, k / 19 % 12, k / (19 * 12));
+    let rounded = first.next_multiple_of(4) as usize;
+    let mut raw = laid(&mut Rng::new(k), 12 + left as usize, (12, first), Some((second, 12 + rounded)));
+    // Padding is 0, and the checksum right.
+    for (place, length) in [(12, first as usize), (12 + rounded, second as usize)] {
+        let (from, to) = ((place + length).min(raw.len()), (place + length.next_multiple_of(4)).min(raw.len()));
+        raw[from..to].fill(0);
+    }
+    Call::PacketWalk { raw: packets::packet(1, 2, 3, &raw[12..], Wrong::default()) }
+}
+
+fn packet_of(k: u64) -> Call {
+    let (lent, first, second, room) = (k % 13, k / 13 % 10, k / 130 % 10, k / 1_300);
+    let chunks = laid(&mut Rng::new(k), lent as usize, (0, first), Some((second, first.max(4) as usize)));
+    Call::PacketMarshal { room: room as u32, fill: 0xEE, source: 1, destination: 2, tag: 3, chunks }
 }

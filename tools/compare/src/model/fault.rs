@@ -57,6 +57,16 @@ faults! {
     QueueFolded "the TSN queue holds 58 for an identifier without a name"
     HandFolded "the message in hand has 58 for an identifier without a name"
     IdentifierCut "a fragment's identifier is cut to 16 bits"
+    SumBigEndian "a packet's checksum stands highest byte first"
+    SumWithField "a packet is summed with its checksum as it stands"
+    SumNotTurned "a checksum is not complemented at its end"
+    NotRounded "a chunk's length is not rounded up to 4, read or written"
+    NextPastEnd "rounding goes past the packet's end"
+    BytesLeftEnd "one to three bytes left are the packet's end"
+    PlaceLast "a place is judged after the chunk there: 11 after 1 and 2"
+    BytesPadded "a chunk's bytes come with its padding"
+    PaddedWithOnes "padding is not written as zeros"
+    RoomBeforeChunks "the room is tested before the chunks that are lent"
 }
 
 /// Which mistake is made, if any.

@@ -5,9 +5,12 @@ pub mod fault;
 pub mod forward;
 pub mod fragments;
 pub mod hand;
+pub mod packets;
 pub mod rows;
 pub mod serial;
 pub mod tsns;
+#[cfg(test)]
+mod packet_tests;
 #[cfg(test)]
 mod tests;
 
@@ -46,6 +49,7 @@ impl Answers for Model {
             16..=31 => self.answer_tsns(call, line),
             32..=41 => self.answer_reassembly(call, line),
             53..=58 => self.answer_forward(call, line),
+            59.. => self.answer_packets(call, line),
             _ => match self.hand.take() {
                 Some(mut hand) => {
                     answer_hand(&mut hand, call, line);
@@ -165,6 +169,26 @@ impl Model {
         }
     }
 
+    fn answer_packets(&mut self, call: &Call, line: &mut Vec<u8>) {
+        let wrong = self.serial.wrong;
+        match call {
+            Call::Crc32c { raw } => words!(line, "number", packets::crc32c(raw, wrong)),
+            Call::Packet { raw } => told(packets::header(raw, wrong), line, |(source, destination, tag), line| words!(line, "packet", source, destination, tag)),
+            Call::PacketChunk { raw, place } => told(packets::chunk_at(raw, *place, wrong), line, |found, line| match found {
+                Some((end, next)) => words!(line, "chunk", end, next),
+                None => words!(line, "none"),
+            }),
+            Call::PacketBytes { raw, place } => part(Ok(packets::bytes_at(raw, *place, wrong)), line),
+            Call::PacketWalk { raw } => show_walk(packets::walk(raw, wrong), line),
+            Call::PacketMarshal { room, fill, source, destination, tag, chunks } => {
+                let mut out = vec![*fill; *room as usize];
+                let answer = packets::write_packet(&mut out, *source, *destination, *tag, chunks, wrong);
+                written(answer, &out, line)
+            }
+            _ => unreachable!("{call:?} is no call of packets"),
+        }
+    }
+
     fn answer_tsns(&mut self, call: &Call, line: &mut Vec<u8>) {
         let queue = &mut self.tsns;
         match call {
@@ -240,6 +264,16 @@ impl Model {
 /// lt, lte, gt, gte.
 fn four(answers: [bool; 4], line: &mut Vec<u8>) {
     words!(line, answers.map(|yes| if yes { "yes" } else { "no" }).join(" "));
+}
+
+/// Each chunk, and what stands at the last place.
+fn show_walk((chunks, last, why): (Vec<(usize, usize)>, usize, Option<u8>), line: &mut Vec<u8>) {
+    words!(line, "walk");
+    for (place, size) in chunks {
+        words!(line, " |", place, size);
+    }
+    words!(line, " |", last, "");
+    told(why.map_or(Ok(()), Err), line, |(), line| words!(line, "none"));
 }
 
 /// State, forging, and the digests of all words.
