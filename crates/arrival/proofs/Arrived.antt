@@ -23,7 +23,7 @@ use Rattle.arrival.proofs.Locate.{Picked, order-nil, order-cons, At, ch
 
 -- ── nothing is due ──
 
-missing-done : (l : List Mark) → missing l ≡ [] → Done l
+pub missing-done : (l : List Mark) → missing l ≡ [] → Done l
 missing-done [] e = tt
 missing-done (came x ∷ l) e = missing-done l e
 missing-done (due x ∷ l) e = absurd (cons≢nil e)
@@ -32,7 +32,7 @@ pub append-nil-both : {A : Type 0} (a b : List A) → a ++ b ≡ [] → (a ≡ [
 append-nil-both [] b e = (refl, e)
 append-nil-both (x ∷ a) b e = absurd (cons≢nil e)
 
-map-nil : {A B : Type 0} (g : A → B) (l : List A) → map g l ≡ [] → l ≡ []
+pub map-nil : {A B : Type 0} (g : A → B) (l : List A) → map g l ≡ [] → l ≡ []
 map-nil g [] e = refl
 map-nil g (x ∷ l) e = absurd (cons≢nil e)
 
@@ -46,7 +46,7 @@ unfolding size
 no-bytes e = ap size e
 
 -- all of a set came
-whole-set : (base si n max : ℕ) (uno r : List Frag) (o p : ℕ) (l : List Mark) → Cut base o p (all-of l) → Done l → Is (hasSsn n) true (arrived l)
+pub whole-set : (base si n max : ℕ) (uno r : List Frag) (o p : ℕ) (l : List Mark) → Cut base o p (all-of l) → Done l → Is (hasSsn n) true (arrived l)
     → Is (hasSsn n) false r → n < 2 ^ 15
     → Gives (queue si n max [] uno (arrived l ++ r)) (mess n p (joined (all-of l)) ∷ []) (queue si (suc n) max [] uno r)
 whole-set base si n max uno r o p [] h d k g b = absurd h
@@ -59,11 +59,11 @@ whole-set base si n max uno r o p (due x ∷ l) h d k g b = absurd d
 -- ── the invariant ──
 
 module _ (si base max : ℕ) where
-  abbrev Cuts : List Msg → Type 0
+  abbrev pub Cuts : List Msg → Type 0
   Cuts [] = Unit {0}
   Cuts (m ∷ ms) = Cut base (m .first) (m .ppi) (m .frags) × Cuts ms
 
-  cuts-snoc : (ms : List Msg) (m : Msg) → Cuts ms → Cut base (m .first) (m .ppi) (m .frags) → Cuts (ms ++ (m ∷ []))
+  pub cuts-snoc : (ms : List Msg) (m : Msg) → Cuts ms → Cut base (m .first) (m .ppi) (m .frags) → Cuts (ms ++ (m ∷ []))
   cuts-snoc [] m h k = (k, tt)
   cuts-snoc (x ∷ ms) m h k = (h .0, cuts-snoc ms m (h .1) k)
 
@@ -167,7 +167,7 @@ module _ (si base max : ℕ) where
       (set-pushed a o i u f v b base max n (s .few) (s .ordered) si (fragsOf fin) (held-of us))
       (subst (λ (m : List Msg). Good es n m (map msg us) fin (state n (is a o i u f v b) us fin)) (same-msgs o i u f v a b) g)
 
-  frags-snoc : (ms : List Msg) (m : Msg) → fragsOf (ms ++ (m ∷ [])) ≡ fragsOf ms ++ m .frags
+  pub frags-snoc : (ms : List Msg) (m : Msg) → fragsOf (ms ++ (m ∷ [])) ≡ fragsOf ms ++ m .frags
   frags-snoc [] m = append-nil (m .frags)
   frags-snoc (x ∷ ms) m = ap (λ (l : List Frag). x .frags ++ l) (frags-snoc ms m) ∙ sym (append-assoc (x .frags) (fragsOf ms) (m .frags))
 

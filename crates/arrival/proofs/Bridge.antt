@@ -39,11 +39,11 @@ both : {A : Type 0} (P : A → Type 0) (b : Bool) {x y : A} → P x → P y → 
 both P true h k = h
 both P false h k = k
 
-record Own (q m : Queue) : Type 0 where
-  is : m .si ≡ q .si
+pub record Own (q m : Queue) : Type 0 where
+  pub is : m .si ≡ q .si
 
 module _ (q : Queue) where
-  abbrev Kept : Given Bool → Type 0
+  abbrev pub Kept : Given Bool → Type 0
   Kept g = Own q (g .queue)
 
   same : Own q q
@@ -73,7 +73,7 @@ module _ (q : Queue) where
     unordered-own =
         both Kept (ltb (q .max) (reach f (q .unordered))) same (both Kept (any (hasTsn (f .tsn)) (q .unordered)) same (both Kept room loose-own same))
 
-    push-own : (stream : ℕ) (u : Bool) → Kept (push room q stream u f)
+    pub push-own : (stream : ℕ) (u : Bool) → Kept (push room q stream u f)
     unfolding push
     push-own stream u = both Kept (eqb stream (q .si)) (both Kept u unordered-own ordered-own) same
 
@@ -81,7 +81,7 @@ module _ (q : Queue) where
   unfolding turn finishedTurn orderedTurn
   turn-own = both (λ (t : Turn). Own q (t .queue)) (ltb 0 (length (q .finished))) (record { is = refl }) (record { is = refl })
 
-  take-own : Own q (model.afterTake q)
+  pub take-own : Own q (model.afterTake q)
   take-own = both (Own q) (readable q) turn-own same
 
 -- ── what a state holds ──
@@ -93,7 +93,7 @@ pub record Holds (s : State) (q : Queue) : Type 0 where
   pub good : Good bytesMost q
 
 module _ {s : State} {q : Queue} (h : Holds s q) where
-  laid-holds : (m : Queue) → Good bytesMost m → Holds (lay m s) m
+  pub laid-holds : (m : Queue) → Good bytesMost m → Holds (lay m s) m
   unfolding lay
   laid-holds m g =
       let long = sound s (h .sound) .long in
@@ -168,15 +168,15 @@ module _ (q : Queue) (buffer : List ℕ) (long : readable q ≡ true → size (t
   queue-is : taken q buffer .queue ≡ model.afterTake q
   queue-is = by-taken (λ (t : Took) (b : Bool). t .queue ≡ cond b (turn q .queue) q) refl refl
 
-  unrefused : taken q buffer .told .refusal ≡ none
-  unrefused = by-taken (λ (t : Took) (b : Bool). t .told .refusal ≡ none) refl refl
+  pub take-unrefused : taken q buffer .told .refusal ≡ none
+  take-unrefused = by-taken (λ (t : Took) (b : Bool). t .told .refusal ≡ none) refl refl
 
   front : take (size (turn q .frags)) (over buffer (joined (turn q .frags))) ≡ joined (turn q .frags)
   unfolding over
   front = take-at (joined (turn q .frags)) _ (size (turn q .frags)) (joined-length (turn q .frags))
 
   module _ (s : State) (ms : List model.Message) where
-    given-is : given (layTaken s (taken q buffer)) (map told ms) ≡ map told (model.given q ms)
+    pub given-is : given (layTaken s (taken q buffer)) (map told ms) ≡ map told (model.given q ms)
     unfolding messageOf
     given-is =
         by-taken (λ (t : Took) (b : Bool). given (layTaken s t) (map told ms) ≡ map told (cond b (record { ssn = turn q .ssn; ppi = firstPpi (turn q .frags); bytes = joined (turn q .frags) } ∷ ms) ms))
@@ -197,10 +197,10 @@ event-pushes (Take b ∷ cs) = event-pushes cs
 
 module _ {s : State} {q : Queue} (h : Holds s q) (b : List ℕ) where
   -- "long enough" of the state is so of the model
-  long-for : (isReadable s ≡ says none true → size (turn (view s) .frags) ≤ length b) → readable q ≡ true → size (turn q .frags) ≤ length b
+  pub long-for : (isReadable s ≡ says none true → size (turn (view s) .frags) ≤ length b) → readable q ≡ true → size (turn q .frags) ≤ length b
   long-for k e = rw (h .seen) at (k (readable-is h ∙ ap (says none) e))
 
-  take-holds : (readable q ≡ true → size (turn q .frags) ≤ length b) → Holds (read s b .state) (model.afterTake q)
+  pub take-holds : (readable q ≡ true → size (turn q .frags) ≤ length b) → Holds (read s b .state) (model.afterTake q)
   take-holds l =
       subst (λ (r : Read). Holds (r .state) (model.afterTake q)) (sym (read-is h b))
       (subst (Holds (lay (taken q b .queue) s)) (queue-is q b l) (laid-holds h (taken q b .queue) (taken-good (h .good) b)))
@@ -229,7 +229,7 @@ walk {s} {q} h (Take b ∷ cs) o r l =
       holds = w .holds;
       roomy = w .roomy;
       came = rw (w .came, read-is h b, given-is q b k s (model.out (model.afterTake q) (events cs)));
-      answered = λ u. (rw (read-is h b) (unrefused q b k), w .answered u);
+      answered = λ u. (rw (read-is h b) (take-unrefused q b k), w .answered u);
     }
 
 -- ── the start ──

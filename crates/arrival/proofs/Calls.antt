@@ -26,11 +26,11 @@ use Rattle.arrival.proofs.Bridge.{readable-is, told, events, event-push
 told-message : (n : ℕ) (m : Sent) → told (model.message n (cutOf m)) ≡ message n m
 told-message n m = rw (joined-bytes (m .chunks))
 
-told-in-order : (n : ℕ) (ms : List Sent) → map told (model.inOrder n (map cutOf ms)) ≡ inOrder n ms
+pub told-in-order : (n : ℕ) (ms : List Sent) → map told (model.inOrder n (map cutOf ms)) ≡ inOrder n ms
 told-in-order n [] = refl
 told-in-order n (m ∷ ms) = rw (told-message n m, told-in-order (suc n) ms)
 
-told-loose : (ms : List Sent) → map told (map (model.message 0) (map cutOf ms)) ≡ map (message 0) ms
+pub told-loose : (ms : List Sent) → map told (map (model.message 0) (map cutOf ms)) ≡ map (message 0) ms
 told-loose [] = refl
 told-loose (m ∷ ms) = rw (told-message 0 m, told-loose ms)
 

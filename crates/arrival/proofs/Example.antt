@@ -44,40 +44,40 @@ chunk u b e tsn ssn ppi bytes =
     }
 
 -- SSN 0, whole and empty
-abbrev empty-0 : Chunk
+abbrev pub empty-0 : Chunk
 empty-0 = chunk false true true 4294967294 0 56 []
 
-abbrev empty : Sent
+abbrev pub empty : Sent
 empty = record { ppi = 56; first = 0; chunks = empty-0 ∷ [] }
 
 -- SSN 1, in three, with an identifier that has no name
-abbrev three-0 : Chunk
+abbrev pub three-0 : Chunk
 three-0 = chunk false true false 1 1 7 (67 ∷ [])
 
-abbrev three-1 : Chunk
+abbrev pub three-1 : Chunk
 three-1 = chunk false false false 2 1 7 (68 ∷ [])
 
-abbrev three-2 : Chunk
+abbrev pub three-2 : Chunk
 three-2 = chunk false false true 3 1 7 (69 ∷ [])
 
-abbrev three : Sent
+abbrev pub three : Sent
 three = record { ppi = 7; first = 3; chunks = three-0 ∷ three-1 ∷ three-2 ∷ [] }
 
 -- unordered, in two, over the wrap; its SSNs say nothing
-abbrev two-0 : Chunk
+abbrev pub two-0 : Chunk
 two-0 = chunk true true false 4294967295 8 4294967295 (65 ∷ [])
 
-abbrev two-1 : Chunk
+abbrev pub two-1 : Chunk
 two-1 = chunk true false true 0 9 4294967295 (66 ∷ [])
 
-abbrev two : Sent
+abbrev pub two : Sent
 two = record { ppi = 4294967295; first = 1; chunks = two-0 ∷ two-1 ∷ [] }
 
 -- unordered, whole
-abbrev one-0 : Chunk
+abbrev pub one-0 : Chunk
 one-0 = chunk true true true 4 0 50 (70 ∷ 71 ∷ [])
 
-abbrev one : Sent
+abbrev pub one : Sent
 one = record { ppi = 50; first = 6; chunks = one-0 ∷ [] }
 
 abbrev pub os : List Sent
@@ -121,7 +121,7 @@ plan =
 
 -- ── the calls: the last chunk first, takes between, three at the end ──
 
-abbrev buffer : List ℕ
+abbrev pub buffer : List ℕ
 buffer = 0 ∷ 0 ∷ 0 ∷ []
 
 abbrev pub calls : List Call

@@ -88,11 +88,11 @@ module _ (p : Frag → Bool) where
   past-skip [] b h = refl
   past-skip (x ∷ a) b h = rw (h .0) (past-skip a b (h .1))
 
-  past-stop : (x : Frag) (l : List Frag) → p x ≡ false → past p (x ∷ l) ≡ x ∷ l
+  pub past-stop : (x : Frag) (l : List Frag) → p x ≡ false → past p (x ∷ l) ≡ x ∷ l
   unfolding past
   past-stop x l e = rw e
 
-  past-none : (l : List Frag) → Is p false l → past p l ≡ l
+  pub past-none : (l : List Frag) → Is p false l → past p l ≡ l
   unfolding past
   past-none [] h = refl
   past-none (x ∷ l) h = past-stop x l (h .0)
@@ -100,7 +100,7 @@ module _ (p : Frag → Bool) where
   pub while-is : (a b : List Frag) → Is p true a → Is p false b → while p (a ++ b) ≡ a
   while-is a b h k = while-skip a b h ∙ rw (while-none b k) (append-nil a)
 
-  past-is : (a b : List Frag) → Is p true a → Is p false b → past p (a ++ b) ≡ b
+  pub past-is : (a b : List Frag) → Is p true a → Is p false b → past p (a ++ b) ≡ b
   past-is a b h k = past-skip a b h ∙ past-none b k
 
   -- it goes between those that are before it and those that are not

@@ -75,7 +75,7 @@ Listed base max o [] = Unit {0}
 Listed base max o (m ∷ ms) = Whole base max m × (o ≤ m .first) × Listed base max (m .first + length (m .frags)) ms
 
 module _ (base max : ℕ) where
-  uno-within : (o : ℕ) (l : List Part) → Listed base max o (map msg l) → Within base o (2 ^ 31) (held-of l)
+  pub uno-within : (o : ℕ) (l : List Part) → Listed base max o (map msg l) → Within base o (2 ^ 31) (held-of l)
   uno-within o [] h = tt
   uno-within o (p ∷ l) h =
       let e = length-all (p .marks) in

@@ -1,7 +1,10 @@
--- Some order and a merge stay so where each entry is mapped, and what holds of each entry holds in any order.
+-- Some order and a merge stay so where each entry is mapped, and are as long as what they are of; what holds of each entry holds in any order.
 -- Assumes nothing.
-use mathlib.Core.Path.{_≡_, refl, ap}
+use mathlib.Core.Path.{_≡_, refl, ap, _∙_}
 use mathlib.Core.List.{List, [], _∷_, _++_, map}
+use Prim.Native.Nat.{_+_}
+use native.Mathlib.Omega.{arith}
+use lib.ListN.{length, length-append}
 use Rattle.arrival.specs.Plan.{Order, none-left, one-of, Merge, neither, left, right}
 
 module _ {A B : Type 0} (f : A → B) where
@@ -18,6 +21,16 @@ module _ {A B : Type 0} (f : A → B) where
   merge-map neither = neither
   merge-map (left g) = left (merge-map g)
   merge-map (right g) = right (merge-map g)
+
+module _ {A : Type 0} where
+  pub order-length : {l r : List A} → Order A l r → length l ≡ length r
+  order-length none-left = refl
+  order-length (one-of xs a ys o) = let k = order-length o ∙ length-append xs ys in rw (length-append xs (a ∷ ys)) (omega arith)
+
+  pub merge-length : {l r m : List A} → Merge A l r m → length m ≡ length l + length r
+  merge-length neither = refl
+  merge-length (left g) = let k = merge-length g in omega arith
+  merge-length (right g) = let k = merge-length g in omega arith
 
 -- P holds of each
 abbrev pub Each : {A : Type 0} → (A → Type 0) → List A → Type 0

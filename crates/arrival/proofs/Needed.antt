@@ -5,7 +5,7 @@ use mathlib.Core.Bool.{Bool, true, false}
 use mathlib.Core.List.{List, [], _∷_}
 use Prim.Native.Nat.{ℕ, suc, _+_, _*_, _≤_}
 use native.Mathlib.Omega.{arith}
-use lib.ListN.{length, length-append, length-map}
+use lib.ListN.{length, length-map}
 use Rattle.wire.specs.Refusal.{Refusal, none, refuse, Told, says}
 use Rattle.serial.specs.Serial.{ahead, distance, before}
 use Rattle.chunk_payload_data.specs.Data.{dataFlags, dataSent}
@@ -20,24 +20,14 @@ use Rattle.reassembly_state.specs.State.{State, fragmentOf, unsound, pushed, Re
 use Rattle.reassembly_queue.specs.Queue.{stateOf, fresh}
 use Rattle.reassembly_state.proofs.Laws.{held-view}
 use Rattle.arrival.specs.Plan as model
-use Rattle.arrival.specs.Plan.{Order, none-left, one-of, Merge, neither, left, right}
+use Rattle.arrival.specs.Plan.{Merge, neither, left, right}
 use Rattle.arrival.specs.Calls.{Chunk, Sent, Call, Push, Take, pushes, afterPush, ran, Came, given, message, inOrder, out, Arrived}
-use Rattle.arrival.proofs.Maps.{Each}
+use Rattle.arrival.proofs.Maps.{order-length, merge-length, Each}
 use Rattle.arrival.proofs.Planned.{Of, fragOf, pieceOf}
 use Rattle.arrival.proofs.Bridge.{push-holds, push-told, read-is, told, events, Walked, walk, fresh-holds, Long-on, back}
 use Rattle.arrival.proofs.Example.{chunk}
 
 -- ── the theorem counts: as many messages come as were sent, and none are left ──
-
-module _ {A : Type 0} where
-  order-length : {l r : List A} → Order A l r → length l ≡ length r
-  order-length none-left = refl
-  order-length (one-of xs a ys o) = let k = order-length o ∙ length-append xs ys in rw (length-append xs (a ∷ ys)) (omega arith)
-
-  merge-length : {l r m : List A} → Merge A l r m → length m ≡ length l + length r
-  merge-length neither = refl
-  merge-length (left g) = let k = merge-length g in omega arith
-  merge-length (right g) = let k = merge-length g in omega arith
 
 in-order-length : (n : ℕ) (ms : List Sent) → length (inOrder n ms) ≡ length ms
 in-order-length n [] = refl

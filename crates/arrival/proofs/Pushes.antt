@@ -41,6 +41,11 @@ module _ (q : Queue) (f : Frag) where
   unfolding push pushOrdered keepOrdered
   set-push l t s d r e = enters q (chunk false f) (complete (grownSet f (q .ordered))) (withOrdered q l) (rw (eq-eqb (q .si) (q .si) refl, t, s, d, r, e))
 
+  -- its number is before the expected one
+  pub set-old : ltb (q .max) (size (setOf (ssnOf f) (q .ordered)) + length (f .bytes)) ≡ false → before 16 (ssnOf f) (q .next) ≡ true → Enters q (chunk false f) q
+  unfolding push pushOrdered
+  set-old t s = enters q (chunk false f) false q (rw (eq-eqb (q .si) (q .si) refl, t, s))
+
 -- ── an unordered chunk ──
 
 module _ {A : Type 0} (a m b : List A) where

@@ -16,7 +16,7 @@ use Rattle.arrival.specs.Plan.{Later, Cut, Whole, Numbered, Ordered, chu
 use Rattle.arrival.proofs.Lists.{Is, Is-ppi, size-append, is-append, any-none, placed-at, set-at, stored-at}
 use Rattle.arrival.proofs.Numbers.{ssn-lt, ssn-ge}
 use Rattle.arrival.proofs.Shape.{Mark, came, due, all-of, arrived, all-append, arrived-append, arrived-small, length-all, below, above, around, split}
-use Rattle.arrival.proofs.Pushes.{Enters, set-push}
+use Rattle.arrival.proofs.Pushes.{Enters, set-push, set-old}
 use Rattle.arrival.proofs.Loose.{Part, part, msg, held-of, held-append, same-msgs, was, is}
 
 -- ── numbers ──
@@ -47,7 +47,7 @@ module _ (base : ℕ) where
   cut-ppi o p (due x ∷ l) h = later-ppi (suc o) p l (h .1)
 
 module _ (base max : ℕ) where
-  low-sets : (n k : ℕ) (a : List Part) → Ordered base max n (map msg a) → n + length a ≤ k → k < 2 ^ 15
+  pub low-sets : (n k : ℕ) (a : List Part) → Ordered base max n (map msg a) → n + length a ≤ k → k < 2 ^ 15
       → Is (ssnBefore k) true (held-of a) × Is (hasSsn k) false (held-of a)
   low-sets n k [] h l m = (tt, tt)
   low-sets n k (p ∷ a) h l m =
@@ -75,7 +75,7 @@ module _ (base max : ℕ) where
   record Amid (n : ℕ) (a : List Part) (p : Part) (b : List Part) : Type 0 where
     left : Ordered base max n (map msg a)
     whole : Whole base max (msg p)
-    number : Numbered (n + length a) (all-of (p .marks))
+    pub number : Numbered (n + length a) (all-of (p .marks))
     right : Ordered base max (suc (n + length a)) (map msg b)
 
   amid : (n : ℕ) (a : List Part) (p : Part) (b : List Part) → Ordered base max n (map msg (a ++ p ∷ b)) → Amid n a p b
@@ -98,7 +98,7 @@ module _ (a : List Part) (o i : ℕ) (u : List Mark) (f : Frag) (v : List Mark) 
   number : ssnOf f ≡ n + length a
   number = numbered-at (n + length a) u f v (mid .number)
 
-  count : n + length a + length b < 32767
+  pub count : n + length a + length b < 32767
   count = omega (arith, few, length-append a (part o i (u ++ due f ∷ v) ∷ b))
 
   low : Is (ssnBefore (ssnOf f)) true (held-of a) × Is (hasSsn (ssnOf f)) false (held-of a)
@@ -110,7 +110,7 @@ module _ (a : List Part) (o i : ℕ) (u : List Mark) (f : Frag) (v : List Mark) 
   own : Is (hasSsn (ssnOf f)) true (arrived (u ++ due f ∷ v))
   own = subst (λ (k : ℕ). Is (hasSsn k) true (arrived (u ++ due f ∷ v))) (sym number) (has-it (n + length a) (u ++ due f ∷ v) (mid .number))
 
-  its-set : setOf (ssnOf f) (held-of (was a o i u f v b)) ≡ arrived (u ++ due f ∷ v)
+  pub its-set : setOf (ssnOf f) (held-of (was a o i u f v b)) ≡ arrived (u ++ due f ∷ v)
   its-set = rw (held-append a (part o i (u ++ due f ∷ v) ∷ b)) (set-at (ssnOf f) (held-of a) (held-of b) (low .1) (high .1) (arrived (u ++ due f ∷ v)) own)
 
   sides : (Is (tsnBefore (f .tsn)) true (arrived u) × Is (hasTsn (f .tsn)) false (arrived u))
@@ -130,7 +130,7 @@ module _ (a : List Part) (o i : ℕ) (u : List Mark) (f : Frag) (v : List Mark) 
   new-own : any (hasTsn (f .tsn)) (setOf (ssnOf f) (held-of (was a o i u f v b))) ≡ false
   new-own = rw (its-set, arrived-append u (due f ∷ v)) (any-none (hasTsn (f .tsn)) (arrived u ++ arrived v) (is-append (hasTsn (f .tsn)) false (arrived u) (arrived v) (sides .0 .1) (sides .1 .1)))
 
-  fits-own : size (setOf (ssnOf f) (held-of (was a o i u f v b))) + length (f .bytes) ≤ max
+  pub fits-own : size (setOf (ssnOf f) (held-of (was a o i u f v b))) + length (f .bytes) ≤ max
   unfolding size
   fits-own =
       let z : size (all-of (u ++ due f ∷ v)) ≡ size (all-of u) + (length (f .bytes) + size (all-of v)) = ap size (all-append u (due f ∷ v)) ∙ size-append (all-of u) (f ∷ all-of v) in
@@ -144,10 +144,22 @@ module _ (a : List Part) (o i : ℕ) (u : List Mark) (f : Frag) (v : List Mark) 
       rw (held-append a (part o i (u ++ due f ∷ v) ∷ b), held-append a (part o i (u ++ came f ∷ v) ∷ b))
       (stored-at f (held-of a) (held-of b) (low .0) (high .0) (low .1) (high .1) (arrived (u ++ due f ∷ v)) (arrived (u ++ came f ∷ v)) own p place-own)
 
-  -- its place is found, and nothing else changes
+  -- its place is found, and nothing else changes; its number is not before the expected one
+  pub set-pushed-at : (e si : ℕ) (fin uno : List Frag) → e ≤ n + length a → roomFor (queue si e max fin uno (held-of (was a o i u f v b))) f ≡ true
+      → Enters (queue si e max fin uno (held-of (was a o i u f v b))) (chunk false f) (queue si e max fin uno (held-of (is a o i u f v b)))
+  set-pushed-at e si fin uno k r =
+      let s : before 16 (ssnOf f) e ≡ false = rw number (ssn-ge (n + length a) e k (omega (arith, count))) in
+      set-push (queue si e max fin uno (held-of (was a o i u f v b))) f (held-of (is a o i u f v b))
+      (le-ltb max (size (setOf (ssnOf f) (held-of (was a o i u f v b))) + length (f .bytes)) fits-own) s new-own r stored-own
+
   pub set-pushed : (si : ℕ) (fin uno : List Frag) → roomFor (queue si n max fin uno (held-of (was a o i u f v b))) f ≡ true
       → Enters (queue si n max fin uno (held-of (was a o i u f v b))) (chunk false f) (queue si n max fin uno (held-of (is a o i u f v b)))
-  set-pushed si fin uno r =
-      let s : before 16 (ssnOf f) n ≡ false = rw number (ssn-ge (n + length a) n (omega arith) (omega (arith, count))) in
-      set-push (queue si n max fin uno (held-of (was a o i u f v b))) f (held-of (is a o i u f v b))
-      (le-ltb max (size (setOf (ssnOf f) (held-of (was a o i u f v b))) + length (f .bytes)) fits-own) s new-own r stored-own
+  set-pushed si fin uno r = set-pushed-at n si fin uno (omega arith) r
+
+  -- its number is before the expected one: it is turned away, and nothing changes
+  pub set-turned-away : (e si : ℕ) (fin uno : List Frag) → n + length a < e → e < 2 ^ 15
+      → Enters (queue si e max fin uno (held-of (was a o i u f v b))) (chunk false f) (queue si e max fin uno (held-of (was a o i u f v b)))
+  set-turned-away e si fin uno k l =
+      let s : before 16 (ssnOf f) e ≡ true = rw number (ssn-lt (n + length a) e k l) in
+      set-old (queue si e max fin uno (held-of (was a o i u f v b))) f
+      (le-ltb max (size (setOf (ssnOf f) (held-of (was a o i u f v b))) + length (f .bytes)) fits-own) s

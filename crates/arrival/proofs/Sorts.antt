@@ -18,17 +18,17 @@ use Rattle.arrival.proofs.Arrived.{append-nil-both, arrival-listed}
 -- ── orders of two blocks that change places ──
 
 module _ {A : Type 0} where
-  record In-first (xs : List A) (c : A) (ys p q : List A) : Type 0 where
-    rest : List A
-    is : p ≡ xs ++ c ∷ rest
-    others : ys ≡ rest ++ q
+  pub record In-first (xs : List A) (c : A) (ys p q : List A) : Type 0 where
+    pub rest : List A
+    pub is : p ≡ xs ++ c ∷ rest
+    pub others : ys ≡ rest ++ q
 
-  record In-second (xs : List A) (c : A) (ys p q : List A) : Type 0 where
-    front : List A
-    is : xs ≡ p ++ front
-    others : q ≡ front ++ c ∷ ys
+  pub record In-second (xs : List A) (c : A) (ys p q : List A) : Type 0 where
+    pub front : List A
+    pub is : xs ≡ p ++ front
+    pub others : q ≡ front ++ c ∷ ys
 
-  which : (xs : List A) (c : A) (ys p q : List A) → xs ++ c ∷ ys ≡ p ++ q → In-first xs c ys p q ⊎ In-second xs c ys p q
+  pub which : (xs : List A) (c : A) (ys p q : List A) → xs ++ c ∷ ys ≡ p ++ q → In-first xs c ys p q ⊎ In-second xs c ys p q
   which xs c ys [] q e = inr (record { front = xs; is = refl; others = sym e })
   which [] c ys (b ∷ p) q e = inl (record { rest = p; is = λ i. _∷_ (sym (head-eq-of-cons-eq e) i) p; others = tail-eq-of-cons-eq e })
   which (x ∷ xs) c ys (b ∷ p) q e = go (which xs c ys p q (tail-eq-of-cons-eq e))
@@ -41,7 +41,7 @@ module _ {A : Type 0} where
   at-place : {l : List A} (xs : List A) (c : A) (ys k m : List A) → Order A l k → k ≡ xs ++ ys → xs ++ c ∷ ys ≡ m → Order A (c ∷ l) m
   at-place {l} xs c ys k m o e g = subst (λ (r : List A). Order A (c ∷ l) r) g (one-of xs c ys (subst (λ (r : List A). Order A l r) e o))
 
-  abbrev Swaps : List A → List A → Type 0
+  abbrev pub Swaps : List A → List A → Type 0
   Swaps l k = (a x y b : List A) → k ≡ a ++ (x ++ (y ++ b)) → Order A l (a ++ (y ++ (x ++ b)))
 
   module _ (l xs : List A) (c : A) (ys : List A) (ih : Swaps l (xs ++ ys)) (a x y b : List A) where
@@ -84,7 +84,7 @@ module _ {A : Type 0} where
         go (inl i) = in-a i
         go (inr i) = go₂ (i .front) (i .is) (which (i .front) c ys x (y ++ b) (sym (i .others)))
 
-  swap : {l k : List A} → Order A l k → Swaps l k
+  pub swap : {l k : List A} → Order A l k → Swaps l k
   swap none-left a x y b e =
       let p = append-nil-both a (x ++ (y ++ b)) (sym e) in
       let q = append-nil-both x (y ++ b) (p .1) in
@@ -98,7 +98,7 @@ put : Msg → List Msg → List Msg
 put m [] = m ∷ []
 put m (k ∷ ks) = cond (leb (m .first) (k .first)) (m ∷ k ∷ ks) (k ∷ put m ks)
 
-sorted : List Msg → List Msg
+pub sorted : List Msg → List Msg
 sorted [] = []
 sorted (m ∷ ms) = put m (sorted ms)
 
@@ -137,7 +137,7 @@ module _ (base max : ℕ) where
       go false e (inl p) ih = let g = leb-false (m .first) (x .first) e in absurd (omega arith)
       go false e (inr p) ih = (h .0, h .1, ih p (a .1) (h .2))
 
-  listed-sorted : (l : List Msg) → Unordered base max l → Listed base max 0 (sorted l)
+  pub listed-sorted : (l : List Msg) → Unordered base max l → Listed base max 0 (sorted l)
   unfolding sorted
   listed-sorted [] h = tt
   listed-sorted (m ∷ l) h = listed-put 0 m (sorted l) (h .0) (omega arith) (apart-sorted m l (h .1)) (listed-sorted l (h .2))
@@ -145,7 +145,7 @@ module _ (base max : ℕ) where
 -- ── an order of what the messages hold ──
 
 module _ {A : Type 0} (g : Msg → List A) where
-  flat : List Msg → List A
+  unfoldable pub flat : List Msg → List A
   flat [] = []
   flat (m ∷ l) = g m ++ flat l
 
@@ -168,17 +168,17 @@ module _ {A : Type 0} (g : Msg → List A) where
       go true ih o = o
       go false ih o = swap (ih (rw append-assoc o)) a (g k) (g m) (flat l) (append-assoc a (g k) (g m ++ flat l))
 
-  sorted-flat : (ps a : List A) (l : List Msg) → Order A ps (a ++ flat l) → Order A ps (a ++ flat (sorted l))
+  pub sorted-flat : (ps a : List A) (l : List Msg) → Order A ps (a ++ flat l) → Order A ps (a ++ flat (sorted l))
   unfolding sorted flat
   sorted-flat ps a [] o = o
   sorted-flat ps a (m ∷ l) o = put-flat ps a m (sorted l) (rw append-assoc at (sorted-flat ps (a ++ g m) l (rw append-assoc o)))
 
-  sorted-back : (ps a : List A) (l : List Msg) → Order A ps (a ++ flat (sorted l)) → Order A ps (a ++ flat l)
+  pub sorted-back : (ps a : List A) (l : List Msg) → Order A ps (a ++ flat (sorted l)) → Order A ps (a ++ flat l)
   unfolding sorted flat
   sorted-back ps a [] o = o
   sorted-back ps a (m ∷ l) o = rw append-assoc at (sorted-back ps (a ++ g m) l (rw append-assoc (put-back ps a m (sorted l) o)))
 
-flat-chunks : (l : List Msg) → map (chunk true) (fragsOf l) ≡ flat (λ (m : Msg). map (chunk true) (m .frags)) l
+pub flat-chunks : (l : List Msg) → map (chunk true) (fragsOf l) ≡ flat (λ (m : Msg). map (chunk true) (m .frags)) l
 unfolding flat
 flat-chunks [] = refl
 flat-chunks (m ∷ l) = map-append (chunk true) (m .frags) (fragsOf l) ∙ ap (λ (r : List Carried). map (chunk true) (m .frags) ++ r) (flat-chunks l)

@@ -3,11 +3,11 @@
 use mathlib.Core.Path.{_≡_, refl, sym, ap, subst, _∙_}
 use mathlib.Core.Bool.{Bool, true, false, not, and-false}
 use mathlib.Core.List.{List, [], _∷_, _++_}
-use Prim.Native.Nat.{ℕ, suc, _^_, _<_}
+use Prim.Native.Nat.{ℕ, suc, _^_, _<_, _≤_}
 use native.Mathlib.Omega.{arith}
 use lib.ListN.{length, take, drop}
 use lib.Seq.{take-at, drop-at}
-use borrow.Author.Tests.{lt-ltb, eqb-true}
+use borrow.Author.Tests.{lt-ltb, eqb-true, ne-eqb}
 use Rattle.serial.specs.Serial.{before}
 use Rattle.fragments.specs.Frag.{Frag, ends, ssnOf, hasSsn}
 use Rattle.fragments.specs.Words.{joined, while}
@@ -91,14 +91,19 @@ module _ (n : ℕ) where
   ready-open [] (x ∷ r) h c k b = rw (b .0)
   ready-open (x ∷ l) r h c k b = rw (own-set x l r h k, c, and-false (not (before 16 n (ssnOf x))))
 
-  ready-whole : (x : Frag) (l r : List Frag) → Is (hasSsn n) true (x ∷ l) → complete (x ∷ l) ≡ true → Is (hasSsn n) false r → n < 2 ^ 15 → readySet n (x ∷ (l ++ r)) ≡ x ∷ l
+  -- complete, and not after the expected number
+  ready-at : (e : ℕ) (x : Frag) (l r : List Frag) → Is (hasSsn n) true (x ∷ l) → complete (x ∷ l) ≡ true → Is (hasSsn n) false r → n ≤ e → e < 2 ^ 15
+      → readySet e (x ∷ (l ++ r)) ≡ x ∷ l
   unfolding readySet
-  ready-whole x l r h c k b =
-      rw (own-set x l r h k, c, eqb-true (ssnOf x) n (h .0), ssn-ge n n (omega arith) b)
+  ready-at e x l r h c k m b = rw (own-set x l r h k, c, eqb-true (ssnOf x) n (h .0), ssn-ge e n m b)
 
   moved-on : (x : Frag) (l : List Frag) → hasSsn n x ≡ true → n < 2 ^ 15 → movedOn n (x ∷ l) ≡ suc n
   unfolding movedOn
   moved-on x l e b = rw e (omega arith)
+
+  not-moved : (e : ℕ) (x : Frag) (l : List Frag) → hasSsn n x ≡ true → n < e → movedOn e (x ∷ l) ≡ e
+  unfolding movedOn
+  not-moved e x l h k = rw (eqb-true (ssnOf x) n h, ne-eqb n e (λ z. omega arith))
 
 module _ (si n max : ℕ) (uno : List Frag) where
   turn-ordered : (l m : List Frag) → readySet n l ≡ m → turn (queue si n max [] uno l) ≡ orderedTurn (queue si n max [] uno l) m
@@ -117,6 +122,16 @@ module _ (si n max : ℕ) (uno : List Frag) where
   unfolding orderedTurn firstSsn
   take-whole x l r h c k b =
       gives-one (queue si n max [] uno (x ∷ (l ++ r))) x l n (queue si (suc n) max [] uno r)
-      (turn-ordered (x ∷ (l ++ r)) (x ∷ l) (ready-whole n x l r h c k b)
+      (turn-ordered (x ∷ (l ++ r)) (x ∷ l) (ready-at n n x l r h c k (omega arith) b)
       ∙ rw (moved-on n x l (h .0) b, drop-at (x ∷ l) r (suc (length l)) refl)
       (ap (λ (s : ℕ). one (x ∷ l) s (queue si (suc n) max [] uno r)) (eqb-true (ssnOf x) n (h .0))))
+
+  -- complete, of a number before the expected one: it comes out, and the same number is expected
+  pub take-waiting : (m : ℕ) (x : Frag) (l r : List Frag) → Is (hasSsn m) true (x ∷ l) → complete (x ∷ l) ≡ true → Is (hasSsn m) false r → m < n → n < 2 ^ 15
+      → Gives (queue si n max [] uno (x ∷ (l ++ r))) (mess m (x .ppi) (joined (x ∷ l)) ∷ []) (queue si n max [] uno r)
+  unfolding orderedTurn firstSsn
+  take-waiting m x l r h c k b d =
+      gives-one (queue si n max [] uno (x ∷ (l ++ r))) x l m (queue si n max [] uno r)
+      (turn-ordered (x ∷ (l ++ r)) (x ∷ l) (ready-at m n x l r h c k (omega arith) d)
+      ∙ rw (not-moved m n x l (h .0) b, drop-at (x ∷ l) r (suc (length l)) refl)
+      (ap (λ (s : ℕ). one (x ∷ l) s (queue si n max [] uno r)) (eqb-true (ssnOf x) m (h .0))))
