@@ -55,12 +55,12 @@ extern "C" {
 
 /* ---- sizes ---- */
 
-#define SCTP_RECEIVE_TSNS 256           /* TSNs that a TSN queue holds */
-#define SCTP_RECEIVE_TSN_WORDS 1024     /* words of its table */
-#define SCTP_RECEIVE_LOG 64             /* duplicates that it logs */
-#define SCTP_RECEIVE_FRAGMENTS 128      /* fragments that a reassembly queue holds */
-#define SCTP_RECEIVE_FRAGMENT_WORDS 512 /* words of its table */
-#define SCTP_RECEIVE_BYTES 32768        /* payload bytes that it holds: the least length of its pool */
+#define SCTP_RECEIVE_TSNS 1024           /* TSNs that a TSN queue holds */
+#define SCTP_RECEIVE_TSN_WORDS 4096      /* words of its table */
+#define SCTP_RECEIVE_LOG 64              /* duplicates that it logs */
+#define SCTP_RECEIVE_FRAGMENTS 512       /* fragments that a reassembly queue holds */
+#define SCTP_RECEIVE_FRAGMENT_WORDS 2048 /* words of its table */
+#define SCTP_RECEIVE_BYTES 65536         /* payload bytes that it holds: the least length of its pool */
 
 /* ---- payload identifiers: the five that have names. Every number is told, kept and written as it was sent ---- */
 
@@ -176,7 +176,7 @@ int32_t sctp_receive_payload_queue_can_push(size_t count, size_t n_bytes, size_t
                                             uint32_t tsn, uint32_t cumulative, bool *is);
 
 /* Stores a chunk of `size` data bytes by its TSN: true. Held, or at or before the cumulative TSN: false, and logged where the log
- * has room. Refuses 8 where 256 are held. */
+ * has room. Refuses 8 where 1,024 are held. */
 int32_t sctp_receive_payload_queue_push(size_t *count, size_t *n_bytes, size_t *dups, uint32_t dup_tsn[SCTP_RECEIVE_LOG],
                                         uint32_t table[SCTP_RECEIVE_TSN_WORDS],
                                         bool unordered, bool beginning_fragment, bool ending_fragment, bool immediate_sack,
@@ -214,7 +214,7 @@ int32_t sctp_receive_payload_queue_get(size_t count, size_t n_bytes, size_t dups
                                        uint32_t *payload_type, uint16_t *size);
 
 /* The gap report: starts and ends of its blocks, as offsets from the cumulative TSN, go to the front of the lists; `*n` is their
- * count. Lists of 256 places always do. Refuses 10. */
+ * count. Lists of 1,024 places always do. Refuses 10. */
 int32_t sctp_receive_payload_queue_get_gap_ack_blocks(size_t count, size_t n_bytes, size_t dups,
                                                       const uint32_t dup_tsn[SCTP_RECEIVE_LOG],
                                                       const uint32_t table[SCTP_RECEIVE_TSN_WORDS], uint32_t cumulative,

@@ -16,11 +16,11 @@ pub struct Line {
     pub each: f64,
 }
 
-/// The series without points yet, and the rows that give them, in order. Reassembly holds 128 at most.
+/// The series without points yet, and the rows that give them, in order. Reassembly holds 512 at most.
 pub fn series() -> (Vec<Series>, Vec<Row>) {
-    let up_to = |most: u32| (2..=8).map(|k| 1 << k).filter(|n| *n <= most).collect::<Vec<u32>>();
+    let up_to = |most: u32| (2..=10).map(|k| 1 << k).filter(|n| *n <= most).collect::<Vec<u32>>();
     let row = |n: &u32| format!("{n} held");
-    let (tsns, fragments) = (up_to(256), up_to(128));
+    let (tsns, fragments) = (up_to(1024), up_to(512));
     let mut rows: Vec<Row> = tsns.iter().map(|n| tsns::push_pop(row(n), n - 1)).collect();
     rows.extend(tsns.iter().map(|n| tsns::report(row(n), *n, 2)));
     rows.extend(fragments.iter().map(|n| messages::push_take(row(n), *n)));
@@ -28,7 +28,7 @@ pub fn series() -> (Vec<Series>, Vec<Row>) {
     let series = vec![
         named("TSN queue: push at the end, pop the first", tsns.clone()),
         named("gap report, every second TSN missing", tsns),
-        named("reassembly: push a message of 250 bytes, take and copy the first", fragments),
+        named("reassembly: push a message of 125 bytes, take and copy the first", fragments),
     ];
     (series, rows)
 }

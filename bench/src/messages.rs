@@ -9,7 +9,7 @@ use std::hint::black_box;
 
 const STREAM: u16 = 2;
 const MOST: u32 = 65_536;
-const BUFFER: usize = 40_000;
+const BUFFER: usize = 72_000;
 
 /// How one message arrives: which fragments, in which order.
 #[derive(Clone)]
@@ -240,13 +240,14 @@ fn drained(name: String, plan: Plan, messages: u32) -> Row {
     Row { name, per: 1, ours, rust }
 }
 
-/// One message of 250 bytes is pushed behind `n - 1` others, and the first one taken and copied.
+/// One message of 125 bytes is pushed behind `n - 1` others, and the first one taken and copied.
 pub fn push_take(name: String, n: u32) -> Row {
     const PER: u32 = 64;
-    let plan = Plan::single(250);
+    const SIZE: usize = 125;
+    let plan = Plan::single(SIZE);
     let (mut ours, mut rust) = (Ours::new(), Rust::new());
     fill(&plan, n - 1, &mut ours, &mut rust);
-    for _ in 0..300 {
+    for _ in 0..600 {
         fill(&plan, 1, &mut ours, &mut rust);
         same_taken(&mut ours, &mut rust);
     }
@@ -256,7 +257,7 @@ pub fn push_take(name: String, n: u32) -> Row {
         move |s| s.ready(&of_ours, PER),
         |s| {
             for i in 0..s.coming.len() {
-                s.push(i, 250);
+                s.push(i, SIZE);
                 s.take();
             }
         },
@@ -297,7 +298,9 @@ pub fn rows(rows: &mut Vec<Row>) {
             rows.push(arrivals(format!("64 fragments of 500 bytes, {kind}, {how}: pushed, taken, copied"), Plan { unordered, size: 500, order }, 1));
         }
     }
-    let whole = Plan { unordered: false, size: 256, order: (0..128).collect() };
-    rows.push(drained("full pool, one message of 128 fragments: taken, copied".into(), whole, 1));
-    rows.push(drained("full pool, 128 messages of 256 bytes: all taken, copied".into(), Plan::single(256), 128));
+    let whole = |n, size| Plan { unordered: false, size, order: (0..n).collect() };
+    rows.push(drained("one message of 128 fragments of 256 bytes: taken, copied".into(), whole(128, 256), 1));
+    rows.push(drained("128 messages of 256 bytes: all taken, copied".into(), Plan::single(256), 128));
+    rows.push(drained("full pool, one message of 512 fragments: taken, copied".into(), whole(512, 128), 1));
+    rows.push(drained("full pool, 512 messages of 128 bytes: all taken, copied".into(), Plan::single(128), 512));
 }

@@ -162,7 +162,7 @@ pub fn push_pop(name: String, n: u32) -> Row {
 /// A chunk is pushed ahead of 255 others, and popped. The Rust's chunks are made outside.
 fn push_front() -> Row {
     let front = CUMULATIVE + 1;
-    let mut pair = held((1..TSNS as u32).map(|i| front + i), CUMULATIVE);
+    let mut pair = held((1..256).map(|i| front + i), CUMULATIVE);
     let f = fields(front);
     assert!(pair.ours.push(&f, SIZE, CUMULATIVE) == Ok(true) && pair.rust.push(chunk(&f, &pair.packet), CUMULATIVE));
     same(&pair, CUMULATIVE);
@@ -229,7 +229,7 @@ fn duplicates() -> Row {
 
 /// Half of 256 TSNs is dropped from each of four queues, which are filled outside.
 fn pop_up_to() -> Row {
-    const N: u32 = TSNS as u32;
+    const N: u32 = 256;
     const QUEUES: usize = 4;
     const TO: u32 = CUMULATIVE + N / 2;
     let full = || held((1..=N).map(|i| CUMULATIVE + i), CUMULATIVE);
@@ -259,7 +259,9 @@ fn pop_up_to() -> Row {
 pub fn rows(rows: &mut Vec<Row>) {
     rows.push(report("gap report: 256 adjacent".into(), 256, 1));
     rows.push(report("gap report: 256, every second missing".into(), 256, 2));
-    for n in [3, 128, 255] {
+    rows.push(report("gap report: 1,024 adjacent".into(), 1024, 1));
+    rows.push(report("gap report: 1,024, every second missing".into(), 1024, 2));
+    for n in [3, 128, 255, 1000] {
         rows.push(push_pop(format!("push at the end, pop the first: {n} held"), n));
     }
     rows.push(push_front());

@@ -52,7 +52,7 @@ fn lists(
 // How much is lent of the pool from now on.
 fn lent(field: u8, value: u64, before: usize) -> usize {
     match field {
-        9 => (value % 40001) as usize,
+        9 => (value % (POOL as u64 + 1)) as usize,
         _ => before,
     }
 }

@@ -5,7 +5,7 @@ use chunks::Chunks;
 use reassembly_queue::ReassemblyQueue;
 
 // The bytes of the pool, of which a part is lent.
-pub const POOL: usize = 40000;
+pub const POOL: usize = 72000;
 
 // The message in hand, if there is one, and how many bytes of its buffer are lent; all bytes from `reach` on are 0.
 pub struct Hand {

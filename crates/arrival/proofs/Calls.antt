@@ -116,7 +116,7 @@ module _ (arrival : model.Arrival) (never : Never-refused) where
   pub arrival-of-calls : Arrival
   arrival-of-calls si base max os us plan ws pool w p cs run until = arrived si base max os us plan ws pool w p cs run arrival never until
 
-  -- the queue holds at most 128 fragments, and as many takes as it holds are enough
+  -- the queue holds at most 512 fragments, and as many takes as it holds are enough
   pub calls-then-takes : model.Drained → Arrival-then-takes
   calls-then-takes drained si base max os us plan ws pool w p cs bs many run =
       let s : State = stateOf (fresh si max) ws pool in

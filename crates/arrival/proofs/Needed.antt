@@ -3,7 +3,7 @@
 use mathlib.Core.Path.{_≡_, refl, sym, ap, _∙_}
 use mathlib.Core.Bool.{Bool, true, false}
 use mathlib.Core.List.{List, [], _∷_}
-use Prim.Native.Nat.{ℕ, suc, _+_, _*_, _≤_}
+use Prim.Native.Nat.{ℕ, suc, _+_, _-_, _*_, _≤_}
 use native.Mathlib.Omega.{arith}
 use lib.ListN.{length, length-map}
 use Rattle.wire.specs.Refusal.{Refusal, none, refuse, Told, says}
@@ -114,8 +114,8 @@ number (refuse k) = suc k
 refused : (k : ℕ) {r : Refusal} → r ≡ refuse k → r ≡ none → ⊥
 refused k e f = let z : suc k ≡ 0 = ap number (sym e ∙ f) in absurd (omega arith)
 
-no-room : (bytes : List ℕ) → length bytes ≡ 32769
-    → push (roomFor (model.starts 7 40000) (fragOf (chunk true true true 1 0 53 bytes))) (model.starts 7 40000) 7 true (fragOf (chunk true true true 1 0 53 bytes)) .told
+no-room : (bytes : List ℕ) → length bytes ≡ bytesMost + 1
+    → push (roomFor (model.starts 7 (bytesMost + 1)) (fragOf (chunk true true true 1 0 53 bytes))) (model.starts 7 (bytesMost + 1)) 7 true (fragOf (chunk true true true 1 0 53 bytes)) .told
     ≡ says (refuse 8) false
 unfolding push pushUnordered reach run any roomFor size fragmentOf dataFlags
 no-room bytes e = rw e
@@ -124,7 +124,7 @@ too-short : taken (model.afterPush (model.starts 7 3) (pieceOf (loose true true 
 unfolding taken push pushUnordered keepLoose moveRun placed any reach run runs find scan startsBy slice gone turn finishedTurn readable size while roomFor fragmentOf dataFlags dataSent
 too-short = refl
 
-unsound-pool : (ws pool : List ℕ) → length pool ≡ 32767 → pushed (stateOf (fresh 7 3) ws pool) (loose true true 1 .fields) (loose true true 1 .bytes) .told .refusal ≡ refuse 0
+unsound-pool : (ws pool : List ℕ) → length pool ≡ bytesMost - 1 → pushed (stateOf (fresh 7 3) ws pool) (loose true true 1 .fields) (loose true true 1 .bytes) .told .refusal ≡ refuse 0
 unfolding pushed unsound
 unsound-pool ws pool e = rw e
 
@@ -208,12 +208,12 @@ module _ (ws pool : List ℕ) (w : length ws ≡ 4 * fragsMost) (p : bytesMost �
   unfolding push pushUnordered reach run fragmentOf dataFlags
   size-limit a = refused 6 (ap (λ (t : Told Bool). t .refusal) (push-told (fresh-holds 7 0 ws pool w p) (loose true true 1) refl)) (a .unrefused .0)
 
-  -- "room never exceeded": 32,769 bytes
-  pub room : (bytes : List ℕ) → length bytes ≡ 32769
-      → Arrived [] (sent 0 (chunk true true true 1 0 53 bytes ∷ []) ∷ []) (start 40000) (Push (chunk true true true 1 0 53 bytes) ∷ []) → ⊥
+  -- "room never exceeded": a byte more than there is room for
+  pub room : (bytes : List ℕ) → length bytes ≡ bytesMost + 1
+      → Arrived [] (sent 0 (chunk true true true 1 0 53 bytes ∷ []) ∷ []) (start (bytesMost + 1)) (Push (chunk true true true 1 0 53 bytes) ∷ []) → ⊥
   room bytes e a =
       let c : Chunk = chunk true true true 1 0 53 bytes in
-      refused 8 (ap (λ (t : Told Bool). t .refusal) (push-told (fresh-holds 7 40000 ws pool w p) c refl ∙ no-room bytes e)) (a .unrefused .0)
+      refused 8 (ap (λ (t : Told Bool). t .refusal) (push-told (fresh-holds 7 (bytesMost + 1) ws pool w p) c refl ∙ no-room bytes e)) (a .unrefused .0)
 
   -- "take buffers long enough": an empty one for a byte
   pub long-buffers : Arrived [] (sent 0 (loose true true 1 ∷ []) ∷ []) (start 3) (Push (loose true true 1) ∷ Take [] ∷ take ∷ []) → ⊥
@@ -222,5 +222,5 @@ module _ (ws pool : List ℕ) (w : length ws ≡ 4 * fragsMost) (p : bytesMost �
       refused 10 (ap (λ (r : Read). r .told .refusal) (read-is h []) ∙ too-short) (a .unrefused .1 .0)
 
 -- "the pool at its full limit": a byte less
-pub full-pool : (ws pool : List ℕ) → length pool ≡ 32767 → Arrived [] (sent 0 (loose true true 1 ∷ []) ∷ []) (stateOf (fresh 7 3) ws pool) (Push (loose true true 1) ∷ []) → ⊥
+pub full-pool : (ws pool : List ℕ) → length pool ≡ bytesMost - 1 → Arrived [] (sent 0 (loose true true 1 ∷ []) ∷ []) (stateOf (fresh 7 3) ws pool) (Push (loose true true 1) ∷ []) → ⊥
 full-pool ws pool e a = refused 0 (unsound-pool ws pool e) (a .unrefused .0)

@@ -8,6 +8,6 @@ use Rattle.arrival.proofs.Calls.{arrival-of-calls, calls-then-takes}
 pub arrival-order : Arrival
 arrival-order = arrival-of-calls arrival unrefused
 
--- and 128 takes at the end are enough
+-- and 512 takes at the end are enough
 pub arrival-order-then-takes : Arrival-then-takes
 arrival-order-then-takes = calls-then-takes arrival unrefused drained

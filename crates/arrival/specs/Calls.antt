@@ -142,7 +142,7 @@ ran s [] = s
 ran s (Push c ∷ cs) = ran (afterPush s c) cs
 ran s (Take b ∷ cs) = ran (read s b .state) cs
 
--- "room never exceeded": at most 128 fragments and 32,768 bytes with each push
+-- "room never exceeded": at most 512 fragments and 65,536 bytes with each push
 abbrev pub Roomy : State → List Call → Type 0
 Roomy s [] = Unit {0}
 Roomy s (Push c ∷ cs) = (roomFor (view s) (fragmentOf (c .fields) (c .bytes)) ≡ true) × Roomy (afterPush s c) cs
@@ -229,7 +229,7 @@ Arrival =
     → isReadable (ran (stateOf (fresh si max) ws pool) calls) ≡ says none false
     → Arrived os us (stateOf (fresh si max) ws pool) calls
 
--- "Take until nothing is readable" has an end: 128 takes at the end, as many as the table has records, are enough
+-- "Take until nothing is readable" has an end: 512 takes at the end, as many as the table has records, are enough
 abbrev pub Arrival-then-takes : Type 0
 Arrival-then-takes =
     (si base max : ℕ) (os us : List Sent) → Plan si base max os us

@@ -99,7 +99,7 @@ stored q r =
       rows = over (q .rows) (put (upToLast (tsnBefore (r .tsn)) (held q)) (r ∷ []) (held q));
     }
 
--- "false, and logged if the log has room; else 256 held: refusal 8; else stored, true"
+-- "false, and logged if the log has room; else 1,024 held: refusal 8; else stored, true"
 unfoldable pub pushed : Queue → Row → ℕ → After Bool
 pushed q r cumulative =
     soundly false q

@@ -3,7 +3,7 @@
 use chunk_payload_data::ChunkPayloadData;
 
 // The sizes, stated once. `specs/Limits.antt` states them once for the proofs.
-pub const TSNS: usize = 256;
+pub const TSNS: usize = 1024;
 
 pub const LOG: usize = 64;
 

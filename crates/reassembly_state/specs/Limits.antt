@@ -1,9 +1,9 @@
--- The sizes, stated once: "At most 128 fragments and 32,768 payload bytes held".
+-- The sizes, stated once: "At most 512 fragments and 65,536 payload bytes held".
 -- Assumes nothing.
 use Prim.Native.Nat.{ℕ}
 
 abbrev pub fragsMost : ℕ
-fragsMost = 128
+fragsMost = 512
 
 abbrev pub bytesMost : ℕ
-bytesMost = 32768
+bytesMost = 65536

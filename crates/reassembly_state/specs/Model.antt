@@ -46,7 +46,7 @@ gives t q = record { told = t; queue = q }
 
 -- ── push ──
 
--- "At most 128 fragments and 32,768 payload bytes held": room for one more
+-- "At most 512 fragments and 65,536 payload bytes held": room for one more
 unfoldable pub roomFor : Queue → Frag → Bool
 roomFor q f = leb (length (held q) + 1) fragsMost && leb (size (held q) + length (f .bytes)) bytesMost
 

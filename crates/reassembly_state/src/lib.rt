@@ -15,9 +15,9 @@ use chunks::Flag;
 use chunks::Number;
 
 // The sizes, stated once. `specs/Limits.antt` states them once for the proofs.
-pub const FRAGMENTS: usize = 128;
+pub const FRAGMENTS: usize = 512;
 
-pub const BYTES: usize = 32768;
+pub const BYTES: usize = 65536;
 
 // The words of the table that the host lends to every call and hands on unaltered.
 pub const WORDS: usize = 4 * FRAGMENTS;

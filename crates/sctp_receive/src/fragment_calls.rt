@@ -1,4 +1,4 @@
-// Reassembly of one stream. C keeps the queue's numbers, each by itself, and lends the table of 512 words and the pool of at least 32,768 bytes to every call.
+// Reassembly of one stream. C keeps the queue's numbers, each by itself, and lends the table of 2,048 words and the pool of at least 65,536 bytes to every call.
 // Refusal 0, before every other answer: a count above its table, a pool shorter than its limit, a place outside the pool, or a byte count that is not the sum of
 // the held lengths. Out values are 0 and false beside a refusal.
 ghost use mathlib.Core.Path.{_≡_};

@@ -1,4 +1,4 @@
-// The TSN queue. C keeps its counts and its log, each by itself, and lends the table of 1,024 words to every call; a call that changes them takes each by reference.
+// The TSN queue. C keeps its counts and its log, each by itself, and lends the table of 4,096 words to every call; a call that changes them takes each by reference.
 // Refusal 0, before every other answer: a count above its table, or a byte count that is not the sum of the held lengths. Out values are 0 and false beside a refusal.
 ghost use mathlib.Core.Path.{_≡_};
 ghost use Rattle.payload_model.specs.Queue.{after, rowOf, pushed, canPush, popped, poppedUpTo, poppedDuplicates};

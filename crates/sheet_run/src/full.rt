@@ -13,10 +13,10 @@ pub fn fragments() {
     let mut pool = [0u8; BYTES];
     let q = ReassemblyQueue::new(0, 10);
     let q = fill(q, &mut table, &mut pool);
-    print::text(b"Run only: 128th fragment ");
-    let q = one_more(q, &mut table, &mut pool, 1000, 128);
-    print::text(b", 129th ");
-    one_more(q, &mut table, &mut pool, 2000, 129);
+    print::text(b"Run only: 512th fragment ");
+    let q = one_more(q, &mut table, &mut pool, 1000, 512);
+    print::text(b", 513th ");
+    one_more(q, &mut table, &mut pool, 2000, 513);
     print::text(b".\n");
 }
 

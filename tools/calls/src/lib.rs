@@ -7,7 +7,7 @@ pub const BYTES_MOST: usize = 65_600;
 /// Most numbers of a list, or of a lent list.
 pub const LIST_MOST: usize = 16_400;
 /// The bytes of the pool, of which a part is lent.
-pub const POOL: usize = 40_000;
+pub const POOL: usize = 72_000;
 
 /// The fields of a DATA chunk before its data.
 #[derive(Clone, Copy, Debug, Default, PartialEq, Eq)]

@@ -7,7 +7,7 @@ use bytes::Bytes;
 use calls::{Call, Fields, line, words};
 
 /// Most records that are shown of the queue.
-const RECORDS: usize = 128;
+const RECORDS: usize = 512;
 /// Above this `next` would reserve memory that a machine may not have, which ends the process; above isize::MAX it panics.
 const RESERVED: u64 = 1 << 30;
 

@@ -11,7 +11,7 @@ static ZEROS: [u8; 65_536] = [0; 65_536];
 /// Places of the log, as it is shown.
 const LOG: usize = 64;
 /// Most records that are shown of the queue.
-const RECORDS: usize = 256;
+const RECORDS: usize = 1_024;
 
 #[derive(Default)]
 pub struct TsnQueue(PayloadQueue);

@@ -137,10 +137,10 @@ fn a_piece_of_the_largest_size_panics_and_moves_nothing() {
 #[test]
 fn no_limit_of_held_tsns_or_fragments() {
     let mut oracle = oracle::Oracle::new();
-    (1..=300).for_each(|tsn| assert_eq!(answer(&mut oracle, &queued(tsn, 0)), "yes"));
-    assert_eq!(answer(&mut oracle, &Call::PqLen {}), "number 300");
+    (1..=1_025).for_each(|tsn| assert_eq!(answer(&mut oracle, &queued(tsn, 0)), "yes"));
+    assert_eq!(answer(&mut oracle, &Call::PqLen {}), "number 1025");
     (1..=65).for_each(|tsn| assert_eq!(answer(&mut oracle, &queued(tsn, 0)), "no"));
     assert_eq!(answer(&mut oracle, &Call::PqPopDuplicates {}), "no such answer");
-    (1..=129).for_each(|i| assert_eq!(answer(&mut oracle, &push(U, 2 * i, 0, 300)), "no"));
-    assert_eq!(answer(&mut oracle, &Call::RqNumBytes {}), "number 38700");
+    (1..=513).for_each(|i| assert_eq!(answer(&mut oracle, &push(U, 2 * i, 0, 300)), "no"));
+    assert_eq!(answer(&mut oracle, &Call::RqNumBytes {}), "number 153900");
 }

@@ -10,13 +10,13 @@ pub(crate) mod hand;
 pub(crate) mod packet;
 
 /// TSNs that a [`PayloadQueue`](crate::PayloadQueue) holds.
-pub const TSNS: usize = 256;
+pub const TSNS: usize = 1024;
 /// Duplicates that it logs.
 pub const LOG: usize = 64;
 /// Fragments that a [`ReassemblyQueue`](crate::ReassemblyQueue) holds.
-pub const FRAGMENTS: usize = 128;
+pub const FRAGMENTS: usize = 512;
 /// Payload bytes that it holds.
-pub const BYTES: usize = 32768;
+pub const BYTES: usize = 65536;
 
 pub(crate) const TSN_WORDS: usize = 4 * TSNS;
 pub(crate) const FRAGMENT_WORDS: usize = 4 * FRAGMENTS;

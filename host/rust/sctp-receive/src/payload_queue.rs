@@ -2,7 +2,7 @@
 use crate::ffi::{self, LOG, TSN_WORDS};
 use crate::{ChunkPayloadData, Error};
 
-/// Which TSNs came, in which order they stand, and which came twice: at most 256 TSNs and 64 logged duplicates. It keeps header fields and data
+/// Which TSNs came, in which order they stand, and which came twice: at most 1,024 TSNs and 64 logged duplicates. It keeps header fields and data
 /// lengths; payload bytes live in [`ReassemblyQueue`](crate::ReassemblyQueue).
 #[derive(Clone, Debug)]
 pub struct PayloadQueue {
@@ -72,7 +72,7 @@ impl PayloadQueue {
     }
 
     /// Stores a chunk of `size` data bytes by its TSN: true; or logs its TSN, where it is held or at or before the cumulative one: false.
-    /// [`Error::Full`] where 256 are held.
+    /// [`Error::Full`] where 1,024 are held.
     #[inline]
     pub fn push(&mut self, p: &ChunkPayloadData, size: u16, cumulative_tsn: u32) -> Result<bool, Error> {
         let (q, mut is) = (self, false);
@@ -196,7 +196,7 @@ impl PayloadQueue {
         out
     }
 
-    /// The gap report: starts and ends of its blocks go to the front of the lists, and their count is the answer. Lists of 256 places always do;
+    /// The gap report: starts and ends of its blocks go to the front of the lists, and their count is the answer. Lists of 1,024 places always do;
     /// [`Error::NoRoom`] where one is too short.
     #[inline]
     pub fn get_gap_ack_blocks(&self, cumulative_tsn: u32, starts: &mut [u16], ends: &mut [u16]) -> Result<usize, Error> {

@@ -3,7 +3,7 @@ use crate::ffi::{self, BYTES, FRAGMENT_WORDS, Hand, Numbers};
 use crate::payload_queue::never_refused;
 use crate::{ChunkPayloadData, Error, ForwardTsnStreams, PayloadProtocolIdentifier};
 
-/// Fragments to messages, for one stream: at most 128 fragments and 32,768 payload bytes are held. It is some 35 KB large: a `static` or a field is the place for it.
+/// Fragments to messages, for one stream: at most 512 fragments and 65,536 payload bytes are held. It is some 74 KB large: a `static` or a field is the place for it.
 #[derive(Clone, Debug)]
 pub struct ReassemblyQueue {
     numbers: Numbers,

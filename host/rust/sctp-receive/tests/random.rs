@@ -141,7 +141,7 @@ fn reassembly() {
     let mut seen = Seen::default();
     for seed in 1..=60 {
         let mut r = Random(0xD134_2543_DE82_EF95u64.wrapping_mul(seed));
-        let max = [40, 2_000, 40_000][seed as usize % 3];
+        let max = [40, 2_000, 72_000][seed as usize % 3];
         let mut base = [0, u32::MAX - 30, 1 << 31][seed as usize / 3 % 3];
         let (mut q, mut m) = (ReassemblyQueue::new(3, max), Stream::new(3, max));
         q.forward_tsn_for_ordered((base as u16).wrapping_sub(1));
@@ -187,7 +187,7 @@ fn reassembly() {
 
 /// A take into a buffer that may be too short; then the message is read whole and in pieces.
 fn take(q: &mut ReassemblyQueue, m: &mut Stream, r: &mut Random, seen: &mut Seen) {
-    let mut buffer = vec![9; if r.often(70) { 40_000 } else { r.below(60) as usize }];
+    let mut buffer = vec![9; if r.often(70) { 72_000 } else { r.below(60) as usize }];
     let wanted = m.read(buffer.len());
     let mut got = match q.read(&mut buffer) {
         Ok(Some(got)) => got,

@@ -178,10 +178,10 @@ fn tsn_queue() {
     assert_eq!((q.pop(7), q.pop(5)), (None, Some(Queued { chunk: held(5), size: 20 })));
     q.pop_up_to(7);
     assert!(q.is_empty() && q.get_num_bytes() == 0);
-    for tsn in 1..=256 {
+    for tsn in 1..=1024 {
         assert_eq!(q.push(&held(tsn), 1, 0), Ok(true));
     }
-    assert_eq!((q.push(&held(257), 1, 0), q.push(&held(256), 1, 0), q.len()), (Err(Error::Full), Ok(false), 256));
+    assert_eq!((q.push(&held(1025), 1, 0), q.push(&held(1024), 1, 0), q.len()), (Err(Error::Full), Ok(false), 1024));
     for _ in 0..70 {
         assert_eq!(q.push(&held(9), 1, 0), Ok(false));
     }
@@ -229,18 +229,18 @@ fn p12_pieces() {
 #[test]
 fn run_only() {
     let mut q = ReassemblyQueue::new(0, 1000);
-    for tsn in 0..128 {
+    for tsn in 0..512 {
         assert_eq!(q.push(&data(3 * tsn, "U"), b"x"), Ok(false));
     }
-    assert_eq!(q.push(&data(999, "U"), b"x"), Err(Error::Full));
+    assert_eq!(q.push(&data(1999, "U"), b"x"), Err(Error::Full));
     q.forward_tsn_for_unordered(300);
-    assert_eq!((q.get_num_bytes(), q.push(&data(999, "UBE"), b"abcdef")), (27, Ok(true)));
+    assert_eq!((q.get_num_bytes(), q.push(&data(1999, "UBE"), b"abcdef")), (411, Ok(true)));
     let (mut buffer, mut out) = ([0; 8], [7; 4]);
     let m = q.read(&mut buffer).unwrap().unwrap();
     assert_eq!((m.read(&mut out), &out), (Err(Error::ShortBuffer), b"abcd"));
 
-    let mut q = ReassemblyQueue::new(0, 40_000);
-    assert_eq!(q.push(&data(1, "UB"), &[0; 32_767]), Ok(false));
+    let mut q = ReassemblyQueue::new(0, 72_000);
+    assert_eq!(q.push(&data(1, "UB"), &[0; 65_535]), Ok(false));
     assert_eq!((q.push(&data(2, "U"), &[0; 2]), q.push(&data(2, "U"), &[0; 1])), (Err(Error::Full), Ok(false)));
 }
 

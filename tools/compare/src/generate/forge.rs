@@ -46,11 +46,11 @@ pub fn tsns(m: &mut Maker) {
         3 => tsn_field(m, 3, any, any >> 20),
         4..7 => {
             let (row, value) = (m.rng.below(rows), tsn(&mut m.rng, m.model.tsns.held()));
-            tsn_field(m, 4, 256 + row, value)
+            tsn_field(m, 4, TSNS as u64 + row, value)
         }
         _ => {
             let (column, row) = (m.rng.pick(&[0, 2, 3]), m.rng.below(rows));
-            tsn_field(m, 4, 256 * column + row, any >> 20)
+            tsn_field(m, 4, TSNS as u64 * column + row, any >> 20)
         }
     }
     if m.rng.one_in(2) {
@@ -61,7 +61,7 @@ pub fn tsns(m: &mut Maker) {
 /// Makes the TSN queue sound again, strange as its records may be.
 pub fn settle_tsns(m: &mut Maker) {
     if m.model.tsns.count > TSNS as u64 {
-        let value = m.rng.pick(&[0, 3, 40, 255, 256]);
+        let value = m.rng.pick(&[0, 3, 40, TSNS as u64 - 1, TSNS as u64]);
         tsn_field(m, 0, 0, value);
     }
     if m.model.tsns.dups > 64 {
@@ -89,7 +89,7 @@ pub fn fragments(m: &mut Maker) {
             field(m, 6, any, value)
         }
         2 => {
-            let value = m.rng.pick(&[0, BYTES - 1, BYTES, BYTES + 1, 36_000, POOL as u64, any]);
+            let value = m.rng.pick(&[0, BYTES - 1, BYTES, BYTES + 1, 70_000, POOL as u64, any]);
             field(m, 9, any, value)
         }
         3 => {
@@ -131,12 +131,12 @@ fn word(m: &mut Maker) {
     let any = m.rng.number() >> 20;
     let (column, value) = match m.rng.below(8) {
         0..3 => (0, head % (1 << 24) + (any % 256 << 24)),
-        3 => (0, head ^ m.rng.pick(&[1, 2, 8, 256, 32_768])),
+        3 => (0, head ^ m.rng.pick(&[1, 2, 8, 256, 65_536])),
         4 => (1, tsn(&mut m.rng, m.model.reassembly.held())),
         5 | 6 => (2, m.rng.pick(&[other, id + 1, expected, id ^ 1 << 15, any])),
         _ => (3, m.rng.pick(&[any % 70, any])),
     };
-    field(m, 7, 128 * column + row, value);
+    field(m, 7, FRAGMENTS as u64 * column + row, value);
 }
 
 /// Makes the reassembly queue sound again where a count or a length is not.

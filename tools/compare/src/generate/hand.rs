@@ -7,8 +7,8 @@ use calls::{BYTES_MOST, Call};
 /// A take into a buffer that is long enough, outside the domain also too short; then the message is read. Whether one came.
 pub fn take(m: &mut Maker) -> bool {
     let size = note_next(m).unwrap_or(0);
-    let more = if m.rng.one_in(600) { BYTES_MOST as u64 - size } else { m.rng.pick(&[0, 0, 1, 2, 7, 40]) };
-    let room = if m.wild(6) { m.rng.below(size + 1).max(size.saturating_sub(2)) } else { size + more };
+    let more = if m.rng.one_in(600) { BYTES_MOST as u64 } else { m.rng.pick(&[0, 0, 1, 2, 7, 40]) };
+    let room = if m.wild(6) { m.rng.below(size + 1).max(size.saturating_sub(2)).min(BYTES_MOST as u64) } else { (size + more).min(BYTES_MOST as u64) };
     let fill = m.rng.byte();
     m.call(Call::RqRead { room: room as u32, fill });
     let came = m.model.hand.is_some();

@@ -4,7 +4,7 @@ use super::{Maker, forge, forward, hand, tsns};
 use crate::Mode;
 use crate::coverage::Event;
 use crate::model::fragments::{BYTES, FRAGMENTS};
-use calls::{B, Call, Data, E, Fields, U};
+use calls::{B, Call, Data, E, Fields, POOL, U};
 
 pub fn run(m: &mut Maker) {
     if m.mode == Mode::Out {
@@ -16,11 +16,11 @@ pub fn run(m: &mut Maker) {
     m.put(Call::RqNew { stream, maximum });
     // Nothing in hand from the run before.
     m.put(Call::RqRead { room: 2, fill: 9 });
-    match m.rng.below(50) {
+    match m.rng.below(150) {
         0 => full(m),
-        1 => long(m),
-        2..12 => odd(m),
-        12 => (0..m.rng.within(5, 25)).for_each(|_| planned(m)),
+        1..6 => long(m),
+        6..34 => odd(m),
+        34..37 => (0..m.rng.within(5, 25)).for_each(|_| planned(m)),
         _ => planned(m),
     }
     if !m.rng.one_in(4) {
@@ -60,7 +60,7 @@ fn arrive(m: &mut Maker, mut due: Vec<Fragment>, plain: bool) {
     while !due.is_empty() {
         let at = m.rng.below(due.len().min(window) as u64) as usize;
         let (fields, data) = due.remove(at);
-        if m.model.reassembly.count() > 100 {
+        if m.model.reassembly.count() > FRAGMENTS as u64 - 28 {
             while hand::take(m) {}
         }
         if plain || !m.rng.one_in(30) {
@@ -212,7 +212,7 @@ fn ask(m: &mut Maker) {
 /// The state, more often where it is short.
 fn look(m: &mut Maker) {
     let queue = &m.model.reassembly;
-    let length = queue.held().len() as u64 / 4 + queue.bytes.min(40_000) / 40;
+    let length = queue.held().len() as u64 / 4 + queue.bytes.min(POOL as u64) / 40;
     if m.rng.one_in(4 + length) {
         m.put(Call::RqState {});
     }

@@ -11,10 +11,10 @@ pub fn run(m: &mut Maker) {
     if m.rng.one_in(3) {
         ask(m, 0);
     }
-    match m.rng.below(40) {
+    match m.rng.below(80) {
         0 => full(m),
-        1..12 => scattered(m),
-        12 => {
+        1..23 => scattered(m),
+        23..25 => {
             // A long run, in which the TSNs go on.
             let mut base = base(&mut m.rng);
             for _ in 0..m.rng.within(5, 25) {

@@ -32,7 +32,7 @@ faults! {
     HalfWayBefore "at half way one is before the other"
     SkipKeepsBytes "an unordered skip does not lower the byte count"
     LogKept "the log's places are not emptied"
-    RoomOneLess "the 128th fragment is turned away"
+    RoomOneLess "the 512th fragment is turned away"
     ReadMoves "a whole read moves on to the message's end"
     FinishedSsn "a finished unordered message has its B's SSN"
     SetsByArrival "a new SSN set goes last"

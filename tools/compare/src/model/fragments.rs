@@ -8,9 +8,9 @@ use super::serial::Serial;
 use calls::{Fields, POOL, U};
 use std::ops::Range;
 
-/// At most 128 fragments and 32,768 payload bytes held.
-pub const FRAGMENTS: usize = 128;
-pub const BYTES: u64 = 32_768;
+/// At most 512 fragments and 65,536 payload bytes held.
+pub const FRAGMENTS: usize = 512;
+pub const BYTES: u64 = 65_536;
 
 #[derive(Clone)]
 pub struct Fragment {

@@ -161,13 +161,13 @@ fn p12_pieces() {
 }
 
 #[test]
-fn the_128th_fragment_is_stored_and_the_129th_is_not() {
+fn the_512th_fragment_is_stored_and_the_513th_is_not() {
     let mut model = Model::new();
-    for tsn in 1..=128 {
+    for tsn in 1..=512 {
         assert_eq!(line(&mut model, push(B, 2 * tsn, 0, 1)), "no");
     }
-    assert_eq!(line(&mut model, push(B, 1000, 0, 1)), "refused 8");
-    assert_eq!(line(&mut model, Call::RqNumBytes {}), "number 128");
+    assert_eq!(line(&mut model, push(B, 2000, 0, 1)), "refused 8");
+    assert_eq!(line(&mut model, Call::RqNumBytes {}), "number 512");
 }
 
 #[test]
@@ -195,7 +195,7 @@ fn an_unsound_queue_is_refused() {
     let mut model = Model::new();
     line(&mut model, Call::PqForge { field: 2, index: 0, value: 65 });
     assert!(line(&mut model, Call::PqPopDuplicates {}).starts_with("refused 0 0 0"));
-    line(&mut model, Call::RqForge { field: 9, index: 0, value: 32_767 });
+    line(&mut model, Call::RqForge { field: 9, index: 0, value: 65_535 });
     assert_eq!(line(&mut model, push(B, 1, 0, 1)), "refused 0");
 }
 
@@ -275,8 +275,8 @@ fn an_old_point_changes_nothing_and_one_half_way_does() {
 #[test]
 fn an_unsound_queue_refuses_an_old_point_too() {
     let mut model = Model::new();
-    line(&mut model, Call::PqForge { field: 0, index: 0, value: 257 });
-    line(&mut model, Call::RqForge { field: 3, index: 0, value: 129 });
+    line(&mut model, Call::PqForge { field: 0, index: 0, value: 1_025 });
+    line(&mut model, Call::RqForge { field: 3, index: 0, value: 513 });
     assert_eq!(line(&mut model, Call::PqApplyForward { cumulative: 1, point: 0 }), "refused 0");
     assert_eq!(line(&mut model, Call::RqApplyForward { part: vec![], cumulative: 1, point: 0 }), "refused 0");
 }

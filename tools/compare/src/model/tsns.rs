@@ -4,8 +4,8 @@ use super::rows::{Row, place};
 use super::serial::Serial;
 use calls::Fields;
 
-/// At most 256 TSNs and 64 logged duplicates.
-pub const TSNS: usize = 256;
+/// At most 1,024 TSNs and 64 logged duplicates.
+pub const TSNS: usize = 1_024;
 pub const LOG: usize = 64;
 
 #[derive(Clone)]

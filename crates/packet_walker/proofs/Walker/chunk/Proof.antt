@@ -28,4 +28,4 @@ chunk-spec 𝓤 H 𝓜 𝓖 𝓡 =
     runs 𝓤 H 𝓜 𝓡 code.env #chunk #bytes-at code.function (code.unfolded 𝓤 H 𝓜 𝓡) routine code.calls-packet-walker·bytes-at
     (Made 𝓤 H A bytes-at.ended asked) (met 𝓤 H 𝓜 𝓖 𝓡) (Made 𝓤 H A chunk.ended told)
     (relays 𝓤 H A W (SliceRef 0 tt u8 tt) (sliceTy (tyRef (named 0) imm (tyInt w8))) #bytes-at (λ κs r u is. shr-slice-lawful 𝓤 H A W (named 0) (κs .0) u8 .typed r _ is .0) asked (λ κs d. (tt, id⊢ 𝓤 _)) told
-    (λ κs d g r. fact-mono 𝓤 (lies r ≡ bytesAt (d .packet) (d .place)) _ (λ e. e)))
+    (λ κs d g r. fact-mono 𝓤 (lies r ≡ bytesAt (d .packet) (d .place)) _ (λ e i. e i)))

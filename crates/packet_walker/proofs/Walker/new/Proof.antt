@@ -18,4 +18,4 @@ new-spec 𝓤 H 𝓜 𝓖 𝓡 =
     let 𝓣 = tables 𝓤 H 𝓜 𝓡 code.env in
     let told = new.clauses 𝓤 H (𝓖 .A) (𝓜 .mem) (𝓡 .run) in
     entered 𝓤 H (Made 𝓤 H (𝓖 .A) new.ended told) (𝓣 .C) (𝓣 .Λ) #new code.function (code.unfolded 𝓤 H 𝓜 𝓡)
-    (start-meets 𝓤 H (𝓖 .A) (givenOf 𝓤 H 𝓜 𝓖) (𝓣 .C) (𝓣 .Λ) _ tt told (λ κs p g. factI 𝓤 _ (emp 𝓤) (refl, refl)))
+    (start-meets 𝓤 H (𝓖 .A) (givenOf 𝓤 H 𝓜 𝓖) (𝓣 .C) (𝓣 .Λ) code.function _ refl tt told (λ κs p g. factI 𝓤 _ (emp 𝓤) (refl, refl)))

@@ -30,4 +30,4 @@ step-spec 𝓤 H 𝓜 𝓖 𝓡 =
     runs 𝓤 H 𝓜 𝓡 code.env #step #chunk-at code.function (code.unfolded 𝓤 H 𝓜 𝓡) routine code.calls-packet-chunks·chunk-at
     (Made 𝓤 H A chunk-at.ended asked) (met 𝓤 H 𝓜 𝓖 𝓡) (Made 𝓤 H A step.ended told)
     (relays 𝓤 H A W (plain (λ _. the-row)) mir #chunk-at (λ κs r u is. lawful the-type the-laws 𝓤 H A W tt .typed r _ is .0) asked (λ κs d. (tt, id⊢ 𝓤 _)) told
-    (λ κs d g r. fact-mono 𝓤 (stepTold r ≡ stepAt (now (d .packet)) (d .place)) _ (λ e. e)))
+    (λ κs d g r. fact-mono 𝓤 (stepTold r ≡ stepAt (now (d .packet)) (d .place)) _ (λ e i. e i)))

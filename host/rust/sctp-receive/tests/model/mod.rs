@@ -34,7 +34,7 @@ impl Tsns {
             }
             return Ok(false);
         }
-        if self.held.len() == 256 {
+        if self.held.len() == 1024 {
             return Err(Error::Full);
         }
         let at = place(&self.held, |h| before32(h.chunk.tsn, chunk.tsn));
@@ -122,7 +122,7 @@ impl Stream {
     }
 
     fn no_room(&self, data: &[u8]) -> bool {
-        self.all().count() == 128 || self.num_bytes() + data.len() > 32768
+        self.all().count() == 512 || self.num_bytes() + data.len() > 65536
     }
 
     pub fn push(&mut self, chunk: ChunkPayloadData, data: &[u8]) -> Result<bool, Error> {
