@@ -6,7 +6,9 @@ pub mod Packets
 pub mod Queue
 pub mod Reassembly
 pub mod Hand
+pub mod Causes
 pub mod C
 pub mod CCodecs
 pub mod CPackets
 pub mod CQueues
+pub mod CCauses

@@ -1,0 +1,4 @@
+pub mod Causes
+pub mod Lists
+pub mod Fronts
+pub mod Facts
