@@ -259,11 +259,12 @@ function named(p, i, w,    head, tail, t) {
 
 function lost(p, name) { printf "%s: no %s there\n", p, name > "/dev/stderr"; missing = 1 }
 
-# an import's target as the item that it is: a constructor is its type; a module that the kit makes of a source is no file, and counts as a library's
-function target(t,    a) {
+# an import's target as the item that it is: a constructor is its type; a crate of the kit, and a module that it makes of a source and that is no file, count as a library's
+function target(t,    a, c) {
     if (index(t, SUBSEP) == 0) return t
     split(t, a, SUBSEP)
-    if (a[1] ~ /\/proofs\// && !(a[1] in sources)) return a[1] "." a[2]
+    c = a[1]; sub(/\/.*/, "", c)
+    if (!(c in ours) || (a[1] ~ /\/proofs\// && !(a[1] in sources))) return a[1] "." a[2]
     if (!((a[1], a[2]) in at)) { lost(a[1], a[2]); return "" }
     return Place[at[a[1], a[2]]] "\003" Name[at[a[1], a[2]]]
 }
@@ -333,7 +334,7 @@ FNR == 1 {
     sub(/^.*crates\//, "", place); sub(/\.[a-z]*$/, "", place)
     crate = place; sub(/\/.*/, "", crate)
     depth = 0; block[0] = 0; tele[0] = ""; open = ""; inside = ""; impl = ""; until = ""; gathering = ""
-    sources[place] = 1
+    sources[place] = 1; ours[crate] = 1
     antt_file = FILENAME ~ /\.antt$/
     if (place ~ /\/src\/lib$/) shown[place] = 1
 }

@@ -7,6 +7,7 @@ pub mod Queue
 pub mod Reassembly
 pub mod Hand
 pub mod Causes
+pub mod Replay
 pub mod C
 pub mod CCodecs
 pub mod CPackets

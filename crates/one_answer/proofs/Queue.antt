@@ -20,6 +20,7 @@ use Rattle.payload_queue.specs.declared.Popped.{Popped}
 use Rattle.payload_queue.specs.declared.Dropped.{Dropped}
 use Rattle.payload_queue.specs.declared.Duplicates.{Duplicates}
 use Rattle.forward_tsn.specs.Applied.{appliedToTsns}
+use Rattle.replay_push.specs.Decoded.{recorded}
 use Rattle.one_answer.proofs.Only.{Only, named-one, both}
 use Rattle.one_answer.proofs.Told.{flag-one, number-one, taken-one, last-one, done-one, handed-one}
 use Rattle.one_answer.proofs.States.{TsnWords, tsn-struct-one, tsn-words-one}
@@ -75,6 +76,11 @@ module _ (self : PayloadQueue) (table : List ℕ) where
   pub forward-tsn-apply-to-tsns-one : («cumulative_tsn» «new_cumulative_tsn» : ℕ)
       → Only (λ (o : Left Dropped). TsnWords (o .table) × (after (doneTold (o .gives .answer)) (queueOf (o .gives .queue) (o .table)) ≡ appliedToTsns (queueOf self table) «cumulative_tsn» «new_cumulative_tsn»))
   forward-tsn-apply-to-tsns-one «cumulative_tsn» «new_cumulative_tsn» = left-one doneTold (λ b. done-one) (λ (r : Dropped). r .answer) (λ (r : Dropped). r .queue) (λ r s. both (λ a l. record { answer = a; queue = l }))
+
+  -- a captured chunk, read and pushed
+  pub replay-push-record-one : (raw : List ℕ)
+      → Only (λ (o : Left Pushed). TsnWords (o .table) × (after (flagTold (o .gives .answer)) (queueOf (o .gives .queue) (o .table)) ≡ recorded (queueOf self table) raw))
+  replay-push-record-one raw = left-one flagTold (λ b. flag-one) (λ (r : Pushed). r .answer) (λ (r : Pushed). r .queue) (λ r s. both (λ a l. record { answer = a; queue = l }))
 
   pub queue-get-one : (tsn : ℕ) → Only (λ (r : Taken). takenTold r ≡ got (queueOf self table) tsn)
   queue-get-one tsn = taken-one

@@ -1,6 +1,4 @@
 // Reads calls from standard input, does each on the proved libraries, and writes one line for it: docs/CALLS.md.
-mod input;
-
 use answer_fragments::state::POOL;
 use answer_text::form;
 use answer_text::operands;

@@ -1,14 +1,14 @@
-// A window over standard input, in which the next call stands whole: where less than the longest call is left, what is left goes to the front and
+// A window over standard input, in which the next call or record stands whole: where less than the longest one is left, what is left goes to the front and
 // more is read behind it.
 use answer_text::operands;
 use libc::STDIN_FILENO;
 
 pub const WINDOW: usize = 262144;
 
-// No call is longer.
+// No call is longer, and no record of captured chunks.
 const LONGEST: usize = 135000;
 
-// How long the call is that is looked at (0: there is none), from where to where bytes stand that begin with it, and whether the input ended.
+// How long the call or record is that is looked at (0: there is none), from where to where bytes stand that begin with it, and whether the input ended.
 pub struct View {
     pub size: usize,
     pub from: usize,
@@ -25,7 +25,7 @@ pub fn unread() -> View {
     }
 }
 
-// The window with a whole call, or with all that is left.
+// The window with a whole call or record, or with all that is left.
 pub fn ready(window: &mut [u8; WINDOW], view: View) -> View {
     if view.ended {
         return view;
@@ -70,12 +70,12 @@ pub fn rest(window: &[u8; WINDOW], view: View) -> &[u8] {
     operands::part(window, view.from, view.to)
 }
 
-// The call.
+// The call or record.
 pub fn call(window: &[u8; WINDOW], view: View) -> &[u8] {
     operands::first(rest(window, view), view.size)
 }
 
-// Behind the call.
+// Behind it.
 pub fn behind(view: View) -> View {
     let mut view = view;
     view.from = std::num::wrapping_add_usize(view.from, view.size);

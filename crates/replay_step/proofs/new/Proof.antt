@@ -1,0 +1,11 @@
+-- `replay_step::new` meets its contract: nothing is held and nothing is counted.
+-- Assumes nothing.
+use borrow.Author.Needs.{needs}
+use Rattle.replay_step.proofs.new.Statement.{statement}
+use Rattle.replay_step.proofs.new.Tie as tie
+
+returns : tie.Need-returns
+returns c = rw (c .before .new .ensures, c .new2 .ensures)
+
+pub new-spec : {M : Type 1} → statement M
+new-spec = tie.close (tie.spec (λ c κs. search needs) (λ c κs. search needs) returns)
