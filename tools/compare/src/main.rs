@@ -8,6 +8,7 @@ mod generate;
 mod model;
 mod parted;
 mod record;
+mod replay;
 mod rng;
 mod run;
 mod shrink;
@@ -29,7 +30,9 @@ const USAGE: &str = "usage:
   compare --mode in|out --stream FILE [--seed N] [--calls N]   writes the calls alone
   compare --answer                                             answers calls on standard input by the model, as the programs do
   compare --record FOLDER --oracle PROGRAM [--seed N]          writes stdin, stdout and source for crates/replies
-  compare --faults [--seed N] [--calls N]                      models with a mistake each are found out";
+  compare --faults [--seed N] [--calls N]                      models with a mistake each are found out
+  compare --replay PROGRAM --three PROGRAM [--seed N] [--files N] [--seconds N]   files of captured chunks; the programs and the model must write the same
+  compare --record-replay FOLDER                               writes stdin and stdout for crates/replay";
 
 /// Inside document 01's domain, or anywhere.
 #[derive(Clone, Copy, Debug, PartialEq, Eq)]
@@ -55,7 +58,7 @@ impl Options {
             let name = word.strip_prefix("--").ok_or(format!("{word} is no option"))?.to_string();
             let value = match name.as_str() {
                 "faults" | "answer" => String::new(),
-                "mode" | "seed" | "calls" | "seconds" | "replies" | "oracle" | "batch" | "record" | "stream" => {
+                "mode" | "seed" | "calls" | "seconds" | "replies" | "oracle" | "batch" | "record" | "stream" | "replay" | "three" | "files" | "record-replay" => {
                     words.next().ok_or(format!("--{name} wants a value"))?
                 }
                 _ => return Err(format!("{word} is no option")),
@@ -102,7 +105,8 @@ fn main() -> ExitCode {
 fn done(options: &Options) -> Result<bool, String> {
     let seed = options.number("seed")?;
     if options.text("faults").is_some() {
-        return Ok(faults::run(seed.unwrap_or(1), options.number("calls")?.unwrap_or(1_000_000)));
+        let found = faults::run(seed.unwrap_or(1), options.number("calls")?.unwrap_or(1_000_000));
+        return Ok(replay::faults(seed.unwrap_or(1), 2_000) && found);
     }
     if options.text("answer").is_some() {
         return answer().map(|()| true).map_err(|e| e.to_string());
@@ -110,7 +114,15 @@ fn done(options: &Options) -> Result<bool, String> {
     if let Some(folder) = options.text("record") {
         return record::write(Path::new(folder), &options.who("oracle")?, seed.unwrap_or(1)).map(|()| true);
     }
+    if let Some(folder) = options.text("record-replay") {
+        return replay::record(Path::new(folder)).map(|()| true);
+    }
     let clock = || std::time::SystemTime::now().duration_since(std::time::UNIX_EPOCH).map_or(1, |time| time.as_nanos() as u64 % 1_000_000_000);
+    if let Some(program) = options.text("replay") {
+        let three = options.text("three").ok_or("--three is wanted")?;
+        let most = options.number("files")?.unwrap_or(if options.number("seconds")?.is_some() { u64::MAX } else { 10_000 });
+        return replay::run(seed.unwrap_or_else(clock), program, three, most, options.number("seconds")?);
+    }
     let asked = Asked {
         mode: options.mode()?,
         seed: seed.unwrap_or_else(clock),
