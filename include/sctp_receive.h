@@ -52,6 +52,7 @@ extern "C" {
 #define SCTP_RECEIVE_SHORT_PACKET 13    /* packet of fewer than 12 bytes */
 #define SCTP_RECEIVE_BAD_CHECKSUM 14    /* packet with a wrong checksum */
 #define SCTP_RECEIVE_NO_DATA 15         /* DATA without data: length 16, or nothing to write */
+#define SCTP_RECEIVE_OPPOSITE_TSN 17    /* a TSN exactly 2^31 from the cumulative one: the sign of a corrupt peer */
 
 /* ---- sizes ---- */
 
@@ -83,6 +84,17 @@ bool sctp_receive_sna16lte(uint16_t i1, uint16_t i2);
 bool sctp_receive_sna16gt(uint16_t i1, uint16_t i2);
 bool sctp_receive_sna16gte(uint16_t i1, uint16_t i2);
 bool sctp_receive_sna16eq(uint16_t i1, uint16_t i2);
+
+/* How does a stand to b? One of these four. Opposite: exactly half way, as far one way as the other. Each of the questions above is answered by
+ * it: before is EARLIER, at or before EARLIER or SAME, and so on. */
+
+#define SCTP_RECEIVE_EARLIER 0
+#define SCTP_RECEIVE_SAME 1
+#define SCTP_RECEIVE_LATER 2
+#define SCTP_RECEIVE_OPPOSITE 3
+
+uint8_t sctp_receive_tsn_compare(uint32_t a, uint32_t b);
+uint8_t sctp_receive_ssn_compare(uint16_t a, uint16_t b);
 
 /* ---- chunks, read and written ----
  * A reader takes the bytes that a chunk begins; bytes past its length are ignored. A writer writes to the front of `out`, `*n` bytes;
@@ -169,14 +181,15 @@ int32_t sctp_receive_packet_marshal_to(uint8_t *out, size_t out_len,
 /* A fresh queue. The table may hold anything. */
 void sctp_receive_payload_queue_new(size_t *count, size_t *n_bytes, size_t *dups, uint32_t dup_tsn[SCTP_RECEIVE_LOG]);
 
-/* Is the TSN neither held nor at or before the cumulative one? */
+/* Is the TSN neither held nor at or before the cumulative one? Yes too of a TSN that is not held and is opposite to the cumulative one, which
+ * `push` refuses with 17. */
 int32_t sctp_receive_payload_queue_can_push(size_t count, size_t n_bytes, size_t dups,
                                             const uint32_t dup_tsn[SCTP_RECEIVE_LOG],
                                             const uint32_t table[SCTP_RECEIVE_TSN_WORDS],
                                             uint32_t tsn, uint32_t cumulative, bool *is);
 
 /* Stores a chunk of `size` data bytes by its TSN: true. Held, or at or before the cumulative TSN: false, and logged where the log
- * has room. Refuses 8 where 1,024 are held. */
+ * has room. Refuses 17, ahead of these and with no logging, where the TSN is opposite to the cumulative one; 8 where 1,024 are held. */
 int32_t sctp_receive_payload_queue_push(size_t *count, size_t *n_bytes, size_t *dups, uint32_t dup_tsn[SCTP_RECEIVE_LOG],
                                         uint32_t table[SCTP_RECEIVE_TSN_WORDS],
                                         bool unordered, bool beginning_fragment, bool ending_fragment, bool immediate_sack,
@@ -190,7 +203,7 @@ int32_t sctp_receive_payload_queue_pop(size_t *count, size_t *n_bytes, size_t *d
                                        uint32_t *tsn, uint16_t *stream_identifier, uint16_t *stream_sequence_number,
                                        uint32_t *payload_type, uint16_t *size);
 
-/* Drops every TSN at or before this one. */
+/* Drops every TSN at or before this one. One that is opposite to it stays. */
 int32_t sctp_receive_payload_queue_pop_up_to(size_t *count, size_t *n_bytes, size_t *dups, uint32_t dup_tsn[SCTP_RECEIVE_LOG],
                                              uint32_t table[SCTP_RECEIVE_TSN_WORDS], uint32_t tsn);
 

@@ -330,6 +330,19 @@ static void walk_packet(void)
     same("and 0 beside it", (long long)source + destination + tag, 0);
 }
 
+/* How numbers stand to each other: over the wrap, and one short of half way, at half way and one past it. */
+static void compare(void)
+{
+    same("the last TSN and 0", sctp_receive_tsn_compare(4294967295u, 0), SCTP_RECEIVE_EARLIER);
+    same("a TSN and itself", sctp_receive_tsn_compare(7, 7), SCTP_RECEIVE_SAME);
+    same("5 and 3", sctp_receive_tsn_compare(5, 3), SCTP_RECEIVE_LATER);
+    same("TSNs half way round", sctp_receive_tsn_compare(0, 0x80000000u), SCTP_RECEIVE_OPPOSITE);
+    same("SSNs one short of it", sctp_receive_ssn_compare(0, 0x7fff), SCTP_RECEIVE_EARLIER);
+    same("SSNs half way round", sctp_receive_ssn_compare(0x8000, 0), SCTP_RECEIVE_OPPOSITE);
+    same("SSNs one past it", sctp_receive_ssn_compare(0, 0x8001), SCTP_RECEIVE_LATER);
+    same("an SSN and itself", sctp_receive_ssn_compare(65535, 65535), SCTP_RECEIVE_SAME);
+}
+
 /* What must be refused, and leaves all as it was. */
 static void refused(void)
 {
@@ -349,6 +362,10 @@ static void refused(void)
     same("and 0 beside it", (long long)start + (long long)bytes, 0);
     same("half a pair", sctp_receive_forward_tsn_unmarshal(half, sizeof half, &cumulative, &blocks), SCTP_RECEIVE_BAD_FORWARD);
     same("and 0 beside it", (long long)cumulative + blocks, 0);
+    bool is = true;
+    same("a TSN half way round", sctp_receive_payload_queue_push(&q.count, &q.n_bytes, &q.dups, q.log, q.table, false, true, true, false,
+         q.cumulative + 0x80000000u, 0, 0, 51, 1, q.cumulative, &is), SCTP_RECEIVE_OPPOSITE_TSN);
+    same("and false beside it", is, 0);
     same("a count above the table",
          sctp_receive_payload_queue_len(SCTP_RECEIVE_TSNS + 1, q.n_bytes, q.dups, q.log, q.table, &n), SCTP_RECEIVE_UNSOUND);
     same("and 0 beside it", (long long)n, 0);
@@ -377,6 +394,7 @@ int main(void)
     read_message();
     give_up();
     walk_packet();
+    compare();
     refused();
     printf("%u checks, %u wrong\n", checks, wrong);
     return wrong == 0 ? 0 : 1;

@@ -17,7 +17,9 @@ pub fn call(call: &[u8], out: &mut [u8; SPACE], at: usize) -> usize {
         1 => ordered(sna32(call), out, at),
         2 => ordered(sna16(call), out, at),
         3 => out::signed(out, at, tsn_distance(call)),
-        _ => out::signed(out, at, ssn_distance(call)),
+        4 => out::signed(out, at, ssn_distance(call)),
+        67 => compared(tsn_compare(call), out, at),
+        _ => compared(ssn_compare(call), out, at),
     }
 }
 
@@ -66,4 +68,22 @@ fn tsn_distance(call: &[u8]) -> i64 {
 fn ssn_distance(call: &[u8]) -> i64 {
     let d = serial::ssn_distance(operands::u16_at(call, 1), operands::u16_at(call, 3));
     out::longer(d)
+}
+
+// The word of how a number stands to another.
+fn compared(order: serial::Order, out: &mut [u8; SPACE], at: usize) -> usize {
+    match order {
+        serial::Order::Earlier => out::text(out, at, b"earlier"),
+        serial::Order::Same => out::text(out, at, b"same"),
+        serial::Order::Later => out::text(out, at, b"later"),
+        serial::Order::Opposite => out::text(out, at, b"opposite"),
+    }
+}
+
+fn tsn_compare(call: &[u8]) -> serial::Order {
+    serial::tsn_compare(operands::u32_at(call, 1), operands::u32_at(call, 5))
+}
+
+fn ssn_compare(call: &[u8]) -> serial::Order {
+    serial::ssn_compare(operands::u16_at(call, 1), operands::u16_at(call, 3))
 }

@@ -16,11 +16,11 @@ use answer_tsns::reports;
 use state::State;
 
 // By the call's number, who does it: the codecs, the TSN queue, the reassembly queue, the message in hand, packets; or a list is written.
-const KINDS: [u8; 65] = *b"cllllcclccllccccttttttlltttttlttffffffflffffffffhhhhhclcctfpppllp";
+const KINDS: [u8; 69] = *b"cllllcclccllccccttttttlltttttlttffffffflffffffffhhhhhclcctfpppllpccll";
 
 fn kind(call: &[u8]) -> u8 {
     let kinds = KINDS;
-    kinds[(operands::u8_at(call, 0) % 65) as usize]
+    kinds[(operands::u8_at(call, 0) % 69) as usize]
 }
 
 // A call, and the end of its line.

@@ -6,7 +6,7 @@ use mathlib.Core.List.{List}
 use Prim.Native.Nat.{ℕ}
 use lib.Dec.{eqb}
 use lib.ListN.{length}
-use Rattle.serial.specs.Serial.{before, after, atOrBefore, atOrAfter}
+use Rattle.serial.specs.Serial.{before, after, atOrBefore, atOrAfter, compared, orderNumber}
 use Rattle.wire.specs.Refusal.{written}
 use Rattle.wire.proofs.Exists.{Bytes}
 use Rattle.chunk.specs.Layout.{Header, header}
@@ -56,6 +56,12 @@ module _ (i j : ℕ) where
 
   pub c-sna16eq-one : Only (λ (r : Bool). r ≡ eqb i j)
   c-sna16eq-one = named-one
+
+  pub c-tsn-compare-one : Only (λ (r : ℕ). r ≡ orderNumber (compared 32 i j))
+  c-tsn-compare-one = named-one
+
+  pub c-ssn-compare-one : Only (λ (r : ℕ). r ≡ orderNumber (compared 16 i j))
+  c-ssn-compare-one = named-one
 
 -- ── the readers; a part by its place ──
 

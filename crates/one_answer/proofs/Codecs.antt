@@ -8,7 +8,8 @@ use lib.Dec.{eqb}
 use lib.IntN.{ℤ}
 use lib.ListN.{length}
 use denote.Ref.{RefT}
-use Rattle.serial.specs.Serial.{next, ahead, distance, before, after, atOrBefore, atOrAfter}
+use Rattle.serial.specs.Serial.{next, ahead, distance, compared, before, after, atOrBefore, atOrAfter}
+use Rattle.serial.specs.declared.Order.{Order}
 use Rattle.wire.specs.Refusal.{Written, written}
 use Rattle.wire.proofs.Exists.{Bytes}
 use Rattle.chunk.specs.Header.{HeaderFront, headerChecks, kindChecks, headerTold, headerRead}
@@ -50,6 +51,12 @@ module _ (a b : ℕ) where
 
   pub serial-ssn-distance-one : Only (λ (r : ℤ). r ≡ distance 16 a b)
   serial-ssn-distance-one = named-one
+
+  pub serial-tsn-compare-one : Only (λ (r : Order). r ≡ compared 32 a b)
+  serial-tsn-compare-one = named-one
+
+  pub serial-ssn-compare-one : Only (λ (r : Order). r ≡ compared 16 a b)
+  serial-ssn-compare-one = named-one
 
   pub serial-sna32lt-one : Only (λ (r : Bool). r ≡ before 32 a b)
   serial-sna32lt-one = named-one

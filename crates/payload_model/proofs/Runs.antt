@@ -13,7 +13,7 @@ use borrow.Author.Tests.{ltb-true, leb-false, le-ltb, le-leb, eq-eqb}
 use Rattle.wire.specs.BigEndian.{over}
 use Rattle.wire.specs.Facts.{over-length}
 use Rattle.wire.specs.Refusal.{none, refuse, says}
-use Rattle.serial.specs.Serial.{ahead, distance, before, atOrBefore}
+use Rattle.serial.specs.Serial.{ahead, distance, before, atOrBefore, ordered, compared, opposite}
 use Rattle.moves.specs.Lists.{put}
 use Rattle.table.specs.Rows.{row, total, some, upToLast, kept, shortLength, hasTsn, tsnBefore}
 use Rattle.table.specs.declared.Row.{Row}
@@ -116,9 +116,10 @@ next : (q : Queue) → Fit q → (c : Call) → Next q (step q c)
 unfolding step pushed popped poppedUpTo poppedDuplicates turnedAway
 next q f (push r cumulative) =
     by (Leaves q) (unsound q) _ _ (λ e. stays f)
+    (λ _. by (Leaves q) (opposite 32 (r .tsn) cumulative) _ _ (λ e. stays f)
     (λ _. by (Leaves q) (some (hasTsn (r .tsn)) (held q) || atOrBefore 32 (r .tsn) cumulative) _ _ (λ e. logged-next q (r .tsn) f)
     (λ d. by (Leaves q) (leb tsnsMost (q .count)) _ _ (λ e. stays f)
-    (λ e. stores f r (either _ _ d .0) (leb-false tsnsMost (q .count) e))))
+    (λ e. stores f r (either _ _ d .0) (leb-false tsnsMost (q .count) e)))))
 next q f (pop tsn) =
     by (Leaves q) (unsound q) _ _ (λ e. stays f)
     (λ _. by (Leaves q) (some (hasTsn tsn) (take 1 (held q))) _ _ (λ e. drops f (drop 1 (held q)) (rw length-drop (omega arith)) (tail-less (held q)))
@@ -144,7 +145,13 @@ all-sane : (q : Queue) → unsound q ≡ false → AllSane q
 unfolding pushed canPush popped poppedUpTo poppedDuplicates got containsStream counted isEmpty numBytes lastTsn gapReport
 all-sane q e =
     record {
-      push = λ r cumulative. rw e (by (λ (a : After Bool). Sane (a .told)) (turnedAway q (r .tsn) cumulative) _ _ (λ _. fine) (λ _. by (λ (a : After Bool). Sane (a .told)) (leb tsnsMost (q .count)) _ _ (λ _. never 8 (omega arith)) (λ _. fine)));
+      push =
+          λ r cumulative.
+          let told : After Bool → Type 0 = λ a. Sane (a .told) in
+          rw e
+          (by told (opposite 32 (r .tsn) cumulative) _ _ (λ _. never 17 (omega arith))
+          (λ _. by told (turnedAway q (r .tsn) cumulative) _ _ (λ _. fine)
+          (λ _. by told (leb tsnsMost (q .count)) _ _ (λ _. never 8 (omega arith)) (λ _. fine))));
       canPush = λ tsn cumulative. rw e fine;
       pop = λ tsn. rw e (by (λ (a : After Found). Sane (a .told)) (some (hasTsn tsn) (take 1 (held q))) _ _ (λ _. fine) (λ _. fine));
       popUpTo = λ tsn. rw e fine;
@@ -270,20 +277,20 @@ crossing = arrival 0 ∷ arrival 2 ∷ arrival 4294967295 ∷ pop 4294967295 ∷
 module _ (ws : List ℕ) where
   -- the held TSNs, moment by moment
   one : tsnsHeld (ran (starts ws) (take 1 crossing)) ≡ 0 ∷ []
-  unfolding step pushed stored turnedAway unsound total some upToLast put over before distance ahead
+  unfolding step pushed stored turnedAway unsound total some upToLast put over before compared ordered distance ahead
   one = refl
 
   two : tsnsHeld (ran (starts ws) (take 2 crossing)) ≡ 0 ∷ 2 ∷ []
-  unfolding step pushed stored turnedAway unsound total some upToLast put over before distance ahead
+  unfolding step pushed stored turnedAway unsound total some upToLast put over before compared ordered distance ahead
   two = refl
 
   -- The last to come stands first.
   pub crossing-three : tsnsHeld (ran (starts ws) (take 3 crossing)) ≡ 4294967295 ∷ 0 ∷ 2 ∷ []
-  unfolding step pushed stored turnedAway unsound total some upToLast put over before distance ahead
+  unfolding step pushed stored turnedAway unsound total some upToLast put over before compared ordered distance ahead
   crossing-three = refl
 
   pub crossing-four : tsnsHeld (ran (starts ws) crossing) ≡ 0 ∷ 2 ∷ []
-  unfolding step pushed popped stored turnedAway unsound total some upToLast put over before distance ahead
+  unfolding step pushed popped stored turnedAway unsound total some upToLast put over before compared ordered distance ahead
   crossing-four = refl
 
   -- The run meets the premise: at each moment the TSNs lie in the arc from 4294967295 on.

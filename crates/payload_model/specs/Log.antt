@@ -10,6 +10,7 @@ use lib.Dec.{ltb, leb}
 use lib.ListN.{set, take}
 use borrow.Author.Tests.{lt-ltb, le-ltb}
 use Rattle.wire.specs.Refusal.{none, refuse, Told, says}
+use Rattle.serial.specs.Serial.{opposite}
 use Rattle.table.specs.Rows.{some, hasTsn}
 use Rattle.table.specs.declared.Row.{Row}
 use Rattle.payload_model.specs.Limits.{tsnsMost, logMost}
@@ -71,6 +72,7 @@ module _ (q : Queue) (log : List ℕ) where
       let f = leftNoted log (q .dups) (r .tsn) in
       let same = unnoted (r .tsn) in
       both f (unsound q) (ap (λ (l : List ℕ). after (says (refuse 0) false) (withLog l q)) same)
+      (both f (opposite 32 (r .tsn) cumulative) (ap (λ (l : List ℕ). after (says (refuse 17) false) (withLog l q)) same)
       (both f (turnedAway q (r .tsn) cumulative) (logged-log (says none false) (r .tsn))
       (both f (leb tsnsMost (q .count)) (ap (λ (l : List ℕ). after (says (refuse 8) false) (withLog l q)) same)
-      (ap (λ (l : List ℕ). after (says none true) (withLog l (stored q r))) same)))
+      (ap (λ (l : List ℕ). after (says none true) (withLog l (stored q r))) same))))

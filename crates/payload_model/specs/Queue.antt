@@ -7,7 +7,7 @@ use lib.Dec.{ltb, leb, eqb}
 use lib.ListN.{length, take, drop, getD, set, replicate}
 use Rattle.wire.specs.BigEndian.{over}
 use Rattle.wire.specs.Refusal.{none, refuse, Told, says}
-use Rattle.serial.specs.Serial.{atOrBefore}
+use Rattle.serial.specs.Serial.{atOrBefore, opposite}
 use Rattle.chunk_payload_data.specs.Layout.{Data}
 use Rattle.chunk_payload_data.specs.Data.{DataValues, noData, dataShown, dataFlags, dataSent}
 use Rattle.chunk_payload_data.specs.declared.ChunkPayloadData.{ChunkPayloadData}
@@ -99,13 +99,15 @@ stored q r =
       rows = over (q .rows) (put (upToLast (tsnBefore (r .tsn)) (held q)) (r ∷ []) (held q));
     }
 
--- "false, and logged if the log has room; else 1,024 held: refusal 8; else stored, true"
+-- "opposite to the cumulative one is refusal 17, before the duplicate test, with no logging" (document 02, M-107); held or old: "false, and logged if the
+-- log has room; else 1,024 held: refusal 8; else stored, true"
 unfoldable pub pushed : Queue → Row → ℕ → After Bool
 pushed q r cumulative =
     soundly false q
+    (cond (opposite 32 (r .tsn) cumulative) (after (says (refuse 17) false) q)
     (cond (turnedAway q (r .tsn) cumulative) (after (says none false) (logged q (r .tsn)))
     (cond (leb tsnsMost (q .count)) (after (says (refuse 8) false) q)
-    (after (says none true) (stored q r))))
+    (after (says none true) (stored q r)))))
 
 -- "yes exactly when the TSN is neither held nor at or before the cumulative one"
 unfoldable pub canPush : Queue → ℕ → ℕ → Told Bool

@@ -28,7 +28,7 @@ pub fn handed(log: [u32; LOG], n: usize) -> [u32; LOG]
     out
 }
 
-// The records of the first n that are after a TSN, moved to the front; answers how many they are.
+// The records of the first n that are not at or before a TSN, moved to the front; answers how many they are.
 pub fn keep_after(table: &mut [u32], n: usize, tsn: u32) -> usize
     requires { ⌜ length (now table) ≡ 4 * tsnsMost ⌝ }
     requires { ⌜ n ≤ tsnsMost ⌝ }

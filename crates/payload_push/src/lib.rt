@@ -1,6 +1,10 @@
 // A TSN that comes: whether it can be pushed, and pushing it.
 ghost use mathlib.Core.Path.{_≡_};
-ghost use Rattle.payload_model.specs.Queue.{queueOf, after, rowOf, pushed, canPush};
+ghost use mathlib.Core.Bool.{false};
+ghost use mathlib.Core.List.{List};
+ghost use Prim.Native.Nat.{ℕ};
+ghost use Rattle.wire.specs.Refusal.{none, refuse, says};
+ghost use Rattle.payload_model.specs.Queue.{queueOf, after, rowOf, logged, pushed, canPush};
 ghost use Rattle.payload_model.specs.Answers.{flagTold};
 use chunk_payload_data::ChunkPayloadData;
 use payload_model::Counts;
@@ -8,6 +12,7 @@ use payload_model::Flag;
 use payload_model::Pushed;
 use payload_model::TSNS;
 use payload_model::WORDS;
+use serial::Order;
 
 // Whether the TSN is neither held nor at or before the cumulative one.
 pub fn can_push(counts: Counts, table: &[u32; WORDS], tsn: u32, cumulative: u32) -> Flag
@@ -23,7 +28,28 @@ pub fn can_push(counts: Counts, table: &[u32; WORDS], tsn: u32, cumulative: u32)
     Flag::Is(!serial::sna32lte(tsn, cumulative))
 }
 
-// Stores the chunk by its TSN: true; or logs its TSN where it is held or old: false; 8 where no room is left.
+// A refusal, and the queue as it was.
+fn refused(counts: Counts, number: u8) -> Pushed
+    ensures { λ r. ⌜ ((ws : List ℕ) → after (flagTold (r .answer)) (queueOf (r .queue) ws) ≡ after (says (refuse number) false) (queueOf counts ws)) ⌝ }
+{
+    Pushed {
+        answer: Flag::Refused(number),
+        queue: counts,
+    }
+}
+
+// A TSN that is held or old: false, and logged.
+fn turned_away(counts: Counts, tsn: u32) -> Pushed
+    ensures { λ r. ⌜ ((ws : List ℕ) → after (flagTold (r .answer)) (queueOf (r .queue) ws) ≡ after (says none false) (logged (queueOf counts ws) tsn)) ⌝ }
+{
+    Pushed {
+        answer: Flag::Is(false),
+        queue: payload_parts::logged(counts, tsn),
+    }
+}
+
+// Stores the chunk by its TSN: true; or logs its TSN where it is held or old: false. 17, ahead of these, where it is opposite to the cumulative one; 8 where
+// no room is left.
 pub fn push(
     counts: Counts,
     table: &mut [u32; WORDS],
@@ -34,31 +60,22 @@ pub fn push(
     ensures { λ r. ⌜ after (flagTold (r .answer)) (queueOf (r .queue) (now (table .exit))) ≡ pushed (queueOf counts (now (table .entry))) (rowOf chunk size) cumulative ⌝ }
 {
     if payload_counts::unsound(counts, table) {
-        return Pushed {
-            answer: Flag::Refused(0),
-            queue: counts,
-        };
+        return refused(counts, 0);
     }
-    let count = counts.count;
     let row = payload_parts::record::row_of(chunk, size);
     let tsn = row.tsn;
-    if table_search::has_tsn(table, TSNS, 0, count, tsn) {
-        return Pushed {
-            answer: Flag::Is(false),
-            queue: payload_parts::logged(counts, tsn),
-        };
+    match serial::tsn_compare(tsn, cumulative) {
+        Order::Opposite => return refused(counts, 17),
+        Order::Earlier => return turned_away(counts, tsn),
+        Order::Same => return turned_away(counts, tsn),
+        Order::Later => {}
     }
-    if serial::sna32lte(tsn, cumulative) {
-        return Pushed {
-            answer: Flag::Is(false),
-            queue: payload_parts::logged(counts, tsn),
-        };
+    let count = counts.count;
+    if table_search::has_tsn(table, TSNS, 0, count, tsn) {
+        return turned_away(counts, tsn);
     }
     if TSNS <= count {
-        return Pushed {
-            answer: Flag::Refused(8),
-            queue: counts,
-        };
+        return refused(counts, 8);
     }
     let at = table_search::place_tsn(table, TSNS, 0, count, tsn);
     table::put_row(table, TSNS, count, at, row);

@@ -93,7 +93,8 @@ impl PayloadQueue {
         payload_push::can_push(self.counts(), table, tsn, cumulative)
     }
 
-    // Stores the chunk by its TSN: true; or logs its TSN where it is held or old: false; 8 where no room is left.
+    // Stores the chunk by its TSN: true; or logs its TSN where it is held or old: false. 17, ahead of these, where it is opposite to the
+    // cumulative one; 8 where no room is left.
     pub fn push(
         self,
         table: &mut [u32; WORDS],

@@ -1,7 +1,8 @@
 // Numbers that wrap: TSNs of 32 bits, SSNs of 16.
 ghost use mathlib.Core.Path.{_≡_};
 ghost use lib.Dec.{eqb};
-ghost use Rattle.serial.specs.Serial.{before, atOrBefore, after, atOrAfter};
+ghost use Rattle.serial.specs.Serial.{before, atOrBefore, after, atOrAfter, compared, orderNumber};
+use sctp_receive_codecs::order::number;
 
 // Is the TSN i1 before i2?
 #[no_mangle]
@@ -81,4 +82,20 @@ pub extern "C" fn sctp_receive_sna16eq(i1: u16, i2: u16) -> bool
     ensures { λ r. ⌜ r ≡ eqb i1 i2 ⌝ }
 {
     serial::sna16eq(i1, i2)
+}
+
+// How the TSN a stands to b: 0 earlier, 1 same, 2 later, 3 opposite.
+#[no_mangle]
+pub extern "C" fn sctp_receive_tsn_compare(a: u32, b: u32) -> u8
+    ensures { λ r. ⌜ r ≡ orderNumber (compared 32 a b) ⌝ }
+{
+    number(serial::tsn_compare(a, b))
+}
+
+// How the SSN a stands to b: 0 earlier, 1 same, 2 later, 3 opposite.
+#[no_mangle]
+pub extern "C" fn sctp_receive_ssn_compare(a: u16, b: u16) -> u8
+    ensures { λ r. ⌜ r ≡ orderNumber (compared 16 a b) ⌝ }
+{
+    number(serial::ssn_compare(a, b))
 }

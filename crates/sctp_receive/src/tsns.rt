@@ -46,7 +46,8 @@ pub extern "C" fn sctp_receive_payload_queue_can_push(
     sctp_receive_tsns::flag(answer, is)
 }
 
-// Stores the chunk by its TSN: true; or logs its TSN where it is held or old: false; 8 where no room is left.
+// Stores the chunk by its TSN: true; or logs its TSN where it is held or old: false. 17, ahead of these, where it is opposite to the
+// cumulative one; 8 where no room is left.
 #[no_mangle]
 pub extern "C" fn sctp_receive_payload_queue_push(
     count: &mut usize,

@@ -62,7 +62,7 @@ pub fn put(
     *dup_tsn = log;
 }
 
-// Stores the chunk by its TSN, or logs its TSN where it is held or old; 8 where no room is left.
+// Stores the chunk by its TSN, or logs its TSN where it is held or old; 17 where it is opposite to the cumulative one, 8 where no room is left.
 pub fn push(
     count: &mut usize,
     n_bytes: &mut usize,

@@ -96,7 +96,7 @@ half : (m : ℕ) → suc m - 1 ≡ m
 half m = omega arith
 
 -- Two tests that both hold.
-both : (s t : Bool) → s && t ≡ true → (s ≡ true) × (t ≡ true)
+pub both : (s t : Bool) → s && t ≡ true → (s ≡ true) × (t ≡ true)
 both true t e = (refl, e)
 both false t e = (e, cc)
 

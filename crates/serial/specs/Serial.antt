@@ -1,9 +1,11 @@
 -- Serial numbers: numbers of w bits that wrap, at any width w. TSNs have 32 bits, SSNs 16.
 -- Assumes nothing.
-use Prim.Native.Nat.{ℕ, _+_, _-_, _%_, _^_}
-use mathlib.Core.Bool.{Bool, false, cond, _||_}
+use Prim.Native.Nat.{ℕ, suc, _+_, _-_, _%_, _^_}
+use mathlib.Core.Bool.{Bool, true, false, cond, _||_}
 use lib.Dec.{ltb, eqb}
 use lib.IntN.{ℤ, pos, negsuc, _-ℤ_}
+use Rattle.serial.specs.declared.Order.{Order}
+use Rattle.serial.specs.declared.Order.the-variants.{Earlier, Same, Later, Opposite}
 
 -- "TSN sums wrap at 2^32, SSN ones at 2^16": the number k steps on from a.
 abbrev pub plus : (w a k : ℕ) → ℕ
@@ -45,3 +47,31 @@ after w b a = before w a b
 -- And so "b at or after a" is "a at or before b".
 abbrev pub atOrAfter : (w b a : ℕ) → Bool
 atOrAfter w b a = atOrBefore w a b
+
+-- ── "earlier, same, later or opposite" (document 02, M-107) ──
+
+-- By the distance: above 0, 0, below 0, and apart from the others below 0 the lowest value, -half.
+unfoldable pub ordered : (half : ℕ) → ℤ → Order
+ordered half (pos n) = cond (ltb 0 n) Earlier Same
+ordered half (negsuc n) = cond (eqb (suc n) half) Opposite Later
+
+-- How a stands to b.
+unfoldable pub compared : (w a b : ℕ) → Order
+compared w a b = ordered (2 ^ (w - 1)) (distance w a b)
+
+-- "Distance exactly 2^31": the one answer that no yes or no of the above tells from the others.
+abbrev pub isOpposite : Order → Bool
+isOpposite Earlier = false
+isOpposite Same = false
+isOpposite Later = false
+isOpposite Opposite = true
+
+abbrev pub opposite : (w a b : ℕ) → Bool
+opposite w a b = isOpposite (compared w a b)
+
+-- The cases' numbers, in the document's order.
+abbrev pub orderNumber : Order → ℕ
+orderNumber Earlier = 0
+orderNumber Same = 1
+orderNumber Later = 2
+orderNumber Opposite = 3

@@ -1,7 +1,16 @@
 // Numbers that wrap: TSNs of 32 bits, SSNs of 16. What each call answers is stated once over the width, in specs/Serial.antt.
 ghost use mathlib.Core.Path.{_≡_};
 ghost use lib.Dec.{eqb};
-ghost use Rattle.serial.specs.Serial.{next, ahead, distance, before, atOrBefore, after, atOrAfter};
+ghost use Rattle.serial.specs.Serial.{next, ahead, distance, compared, before, atOrBefore, after, atOrAfter};
+ghost use Rattle.serial.specs.Compared.{isBefore};
+
+// How a number stands to another. Opposite: the distance is the lowest value, as far one way as the other, and neither is before the other.
+pub enum Order {
+    Earlier,
+    Same,
+    Later,
+    Opposite,
+}
 
 // The TSN after a.
 pub fn tsn_next(a: u32) -> u32
@@ -55,12 +64,57 @@ pub fn ssn_distance(a: u16, b: u16) -> i32
     }
 }
 
+// How the TSN a stands to b.
+pub fn tsn_compare(a: u32, b: u32) -> Order
+    ensures { λ r. ⌜ r ≡ compared 32 a b ⌝ }
+{
+    let steps = tsn_offset(a, b);
+    if steps < 0x8000_0000 {
+        if 0 < steps {
+            return Order::Earlier;
+        }
+        return Order::Same;
+    }
+    if steps == 0x8000_0000 {
+        return Order::Opposite;
+    }
+    Order::Later
+}
+
+// How the SSN a stands to b.
+pub fn ssn_compare(a: u16, b: u16) -> Order
+    ensures { λ r. ⌜ r ≡ compared 16 a b ⌝ }
+{
+    let steps = ssn_offset(a, b);
+    if steps < 0x8000 {
+        if 0 < steps {
+            return Order::Earlier;
+        }
+        return Order::Same;
+    }
+    if steps == 0x8000 {
+        return Order::Opposite;
+    }
+    Order::Later
+}
+
+// Before is the answer Earlier, and no other: at exactly half way neither is before the other.
+fn earlier(order: Order) -> bool
+    ensures { λ r. ⌜ r ≡ isBefore order ⌝ }
+{
+    match order {
+        Order::Earlier => true,
+        Order::Same => false,
+        Order::Later => false,
+        Order::Opposite => false,
+    }
+}
+
 // Is the TSN i1 before i2?
 pub fn sna32lt(i1: u32, i2: u32) -> bool
     ensures { λ r. ⌜ r ≡ before 32 i1 i2 ⌝ }
 {
-    let d = tsn_offset(i1, i2);
-    0 < d && d < 0x8000_0000
+    earlier(tsn_compare(i1, i2))
 }
 
 // Is the TSN i1 at or before i2?
@@ -95,8 +149,7 @@ pub fn sna32eq(i1: u32, i2: u32) -> bool
 pub fn sna16lt(i1: u16, i2: u16) -> bool
     ensures { λ r. ⌜ r ≡ before 16 i1 i2 ⌝ }
 {
-    let d = ssn_offset(i1, i2);
-    0 < d && d < 0x8000
+    earlier(ssn_compare(i1, i2))
 }
 
 // Is the SSN i1 at or before i2?

@@ -7,7 +7,7 @@ use Prim.Native.Nat.{ℕ, _*_, _≤_}
 use lib.ListN.{length, drop}
 use denote.Ref.{RefT}
 use Rattle.wire.specs.BigEndian.{bigEndian, over}
-use Rattle.serial.specs.Serial.{ahead, distance, before}
+use Rattle.serial.specs.Serial.{ahead, distance, before, ordered, compared}
 use Rattle.serial.specs.Facts.{five-to-three, last-to-zero, zero-to-half}
 use Rattle.chunk.specs.Layout.{headerBytes}
 use Rattle.chunk_payload_data.specs.Layout.{dataValue}
@@ -64,7 +64,7 @@ module _ (lent : RefT (List ℕ)) (tsns words pool : List ℕ) (w : length words
       (push-told new _ _, (push-told held _ _, (push-told held _ _, p10)))
 
   p6-p7-p8 : From 19
-  unfolding gapReport gap.written gap.walk gap.extend queue.pushed queue.stored queue.turnedAway queue.unsound queue.rowOf rows.total rows.some rows.upToLast put over dataFlags dataSent before distance ahead
+  unfolding gapReport gap.written gap.walk gap.extend queue.pushed queue.stored queue.turnedAway queue.unsound queue.rowOf rows.total rows.some rows.upToLast put over dataFlags dataSent before compared ordered distance ahead
   p6-p7-p8 = (refl, (refl, (refl, p9)))
 
   p5 : From 12

@@ -130,6 +130,8 @@ calls! {
     62 PacketBytes { raw: Vec<u8>, place: u64 }
     63 PacketWalk { raw: Vec<u8> }
     64 PacketMarshal { room: u32, fill: u8, source: u16, destination: u16, tag: u32, chunks: Vec<u8> }
+    67 TsnCompare { a: u32, b: u32 }
+    68 SsnCompare { a: u16, b: u16 }
 }
 
 impl Call {

@@ -23,7 +23,7 @@ const EXPECTED: &[(&str, &str, &str)] = &[
     ("SackMarshal", "wrote", "refused 9,refused 10"),
     ("PqNew", "done", ""),
     ("PqCanPush", "yes,no", "refused 0"),
-    ("PqPush", "yes,no", "refused 0,refused 8"),
+    ("PqPush", "yes,no,refused 17", "refused 0,refused 8"),
     ("PqPop", "chunk,none", "chunk unnamed,refused 0"),
     ("PqPopUpTo", "done", "refused 0"),
     ("PqGet", "chunk,none", "chunk unnamed,refused 0"),
@@ -64,6 +64,8 @@ const EXPECTED: &[(&str, &str, &str)] = &[
     ("PacketBytes", "", "part,part -"),
     ("PacketWalk", "none", "refused 1,refused 2,refused 11"),
     ("PacketMarshal", "wrote", "refused 1,refused 2,refused 10"),
+    ("TsnCompare", "earlier,same,later,opposite", ""),
+    ("SsnCompare", "earlier,same,later,opposite", ""),
 ];
 
 /// What is counted of whole messages and runs.
@@ -221,7 +223,7 @@ mod tests {
         for (_, name) in Call::NAMES {
             assert!(EXPECTED.iter().any(|(expected, ..)| expected == name), "{name}");
         }
-        for number in 0..=15 {
+        for number in (0..=15).chain([17]) {
             let refused = format!("refused {number}");
             assert!(expected(Mode::Out).any(|(_, _, answer)| answer == refused), "{refused}");
         }

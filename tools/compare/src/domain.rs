@@ -13,7 +13,8 @@ use calls::{Call, Data, Fields, U};
 const PIECE_MOST: u64 = 1 << 20;
 
 /// Whether a call, made in this state, is inside. What the Rust does not have is not: distances, lookups by index, short buffers, forging.
-/// Nor is DATA without data, which document 02 refuses and the Rust takes, nor a payload identifier that the Rust folds.
+/// Nor is DATA without data, which document 02 refuses and the Rust takes, nor a payload identifier that the Rust folds, nor a TSN opposite to the cumulative
+/// one, which document 02 refuses and the Rust stores.
 pub fn inside(model: &Model, call: &Call) -> bool {
     match call {
         Call::Sna32 { a, b } => a.wrapping_sub(*b) != 1 << 31,
@@ -36,7 +37,7 @@ pub fn inside(model: &Model, call: &Call) -> bool {
         Call::PqApplyForward { cumulative, point } => !opposite(*cumulative, *point),
         Call::RqApplyForward { part, cumulative, point } => applied(&model.reassembly, part, *cumulative, *point),
         Call::Crc32c { .. } | Call::Packet { .. } | Call::PacketChunk { .. } | Call::PacketBytes { .. } | Call::PacketWalk { .. } | Call::PacketMarshal { .. } => packets::inside(call),
-        Call::PqPush { fields, cumulative, .. } => kept(fields.identifier) && tsn_push(model, fields.tsn, *cumulative),
+        Call::PqPush { fields, cumulative, .. } => !opposite(fields.tsn, *cumulative) && pushable(model, fields, *cumulative),
         Call::PqGapAckBlocks { cumulative, starts, ends, .. } => model.tsns.blocks(*cumulative).len() <= (*starts).min(*ends) as usize,
         Call::RqPush { fields, data } => kept(fields.identifier) && push(&model.reassembly, fields, *data),
         Call::RqRead { room, .. } => fits(&model.reassembly, *room),
@@ -101,6 +102,15 @@ pub fn one_arc(width: u32, mut numbers: impl Iterator<Item = u32>) -> bool {
     high - low < 1 << (width - 1)
 }
 
+/// A push of a TSN opposite to the cumulative one that is inside but for this.
+pub fn opposed(model: &Model, call: &Call) -> bool {
+    matches!(call, Call::PqPush { fields, cumulative, .. } if opposite(fields.tsn, *cumulative) && pushable(model, fields, *cumulative))
+}
+
+fn pushable(model: &Model, fields: &Fields, cumulative: u32) -> bool {
+    kept(fields.identifier) && tsn_push(model, fields.tsn, cumulative)
+}
+
 /// "Room and log not exceeded", "held TSNs distinct and in one arc".
 fn tsn_push(model: &Model, tsn: u32, cumulative: u32) -> bool {
     let queue = &model.tsns;
@@ -121,7 +131,7 @@ fn ssns(queue: &Reassembly, more: &[u16]) -> bool {
     one_arc(16, ordered.iter().map(|r| r.ssn()).chain([queue.expected]).chain(more.iter().copied()).map(u32::from))
 }
 
-fn opposite(a: u32, b: u32) -> bool {
+pub fn opposite(a: u32, b: u32) -> bool {
     a.wrapping_sub(b) == 1 << 31
 }
 
@@ -190,6 +200,16 @@ mod tests {
             (without_data(&call), inside(&Model::new(), &call))
         };
         assert_eq!([write(0, 16), write(0, 15), write(1, 17), write(1, 16)], [(true, false), (false, false), (false, true), (false, false)]);
+    }
+
+    #[test]
+    fn opposite_tsns_are_outside() {
+        let push = |tsn, cumulative, identifier| {
+            let call = Call::PqPush { fields: Fields { tsn, identifier, ..Fields::default() }, size: 0, cumulative };
+            (opposed(&Model::new(), &call), inside(&Model::new(), &call))
+        };
+        assert_eq!([push(1 << 31, 0, 51), push(5, 5 + (1 << 31), 51)], [(true, false); 2]);
+        assert_eq!([push((1 << 31) - 1, 0, 51), push((1 << 31) + 1, 0, 51), push(1 << 31, 0, 7)], [(false, true), (false, true), (false, false)]);
     }
 
     #[test]

@@ -1,6 +1,6 @@
 //! Differences between the rules and the Rust that docs/DIFFERENCES.md explains, where one call shows them.
 use crate::domain::packets::parted;
-use crate::domain::{folded, padding, without_data};
+use crate::domain::{folded, opposite, padding, without_data};
 use crate::model::forward::PAIRS;
 use calls::Call;
 
@@ -15,6 +15,7 @@ pub const ALL: &[(u8, &str)] = &[
     (19, "the common header with the first chunk"),
     (20, "a last chunk without its padding"),
     (22, "a chunk of another kind"),
+    (24, "a TSN opposite to the cumulative one"),
 ];
 
 /// The number of the difference that explains why the Rust answers otherwise, if one does.
@@ -42,6 +43,7 @@ pub fn by(call: &Call, ours: &[u8], oracle: &[u8]) -> Option<u8> {
         Call::Packet { .. } if parted(call) == Some(19) => (19, ours.starts_with(b"packet ") && FIRST_CHUNK.contains(&oracle)),
         Call::PacketWalk { .. } if parted(call) == Some(20) => (20, ours.ends_with(b" none") && oracle == b"error ErrParseSctpChunkNotEnoughData"),
         Call::PacketWalk { .. } if parted(call) == Some(22) => (22, ours.starts_with(b"walk ") && oracle == b"error ErrUnmarshalUnknownChunkType"),
+        Call::PqPush { fields, cumulative, .. } => (24, opposite(fields.tsn, *cumulative) && ours == b"refused 17" && [&b"yes"[..], b"no"].contains(&oracle)),
         Call::MNext { most } => (15, *most > i64::MAX as u64 && oracle.starts_with(b"panic ")),
         _ => return None,
     };
@@ -125,6 +127,14 @@ mod tests {
         let write = |size, ours: &[u8]| by(&marshal(size), ours, b"wrote 16 00");
         assert_eq!([write(0, b"refused 15 00"), write(0, b"refused 9 00"), write(1, b"refused 15 00")], [Some(6), None, None]);
     }
+
+    #[test]
+    fn an_opposite_tsn_that_the_rust_stores_or_logs() {
+        let push = |tsn, cumulative, ours: &[u8], oracle: &[u8]| by(&Call::PqPush { fields: Fields { tsn, ..Fields::default() }, size: 0, cumulative }, ours, oracle);
+        assert_eq!([push(1 << 31, 0, b"refused 17", b"yes"), push(7, 7 + (1 << 31), b"refused 17", b"no")], [Some(24); 2]);
+        assert_eq!([push(1, 0, b"refused 17", b"yes"), push(1 << 31, 0, b"no", b"yes"), push(1 << 31, 0, b"refused 17", b"panic")], [None; 3]);
+    }
+
     #[test]
     fn packets_that_the_rust_does_not_take_whole() {
         let packet = |body: &[u8]| packets::packet(1, 2, 3, body, Wrong::default());

@@ -84,6 +84,18 @@ fn all_the_way_round() -> Vec<Call> {
     [fresh(sets), fresh(tsns)].concat()
 }
 
+/// 24: a TSN opposite to the cumulative one, not held and held, in a queue that goes on; beside it one nearer and one farther.
+fn opposite() -> Vec<Call> {
+    let half = 1 << 31;
+    let numbers = [(0, half), (half, 0), (0, half - 1), (0, half + 1), (3, 3)].into_iter();
+    let compared = numbers.flat_map(|(a, b)| [Call::TsnCompare { a, b }, Call::SsnCompare { a: (a >> 16) as u16, b: (b >> 16) as u16 }]).collect();
+    let asked = |tsn| [Call::PqCanPush { tsn, cumulative: 0 }, queued(tsn, 0), Call::PqState {}, Call::PqPopDuplicates {}];
+    let unheld = fresh(asked(half));
+    let held = fresh([queued(half, 1)].into_iter().chain(asked(half)).chain([Call::PqPopUpTo { tsn: 0 }]));
+    let beside = fresh(asked(half - 1).into_iter().chain(asked(half + 1)));
+    [compared, unheld, held, beside].concat()
+}
+
 /// 19 to 22: packets that the Rust does not take whole, or steps through otherwise.
 fn packets() -> Vec<Call> {
     let bodies: [&[u8]; 8] = [
@@ -104,5 +116,5 @@ fn packets() -> Vec<Call> {
 }
 
 pub fn calls() -> Vec<Call> {
-    [duplicates(), identifiers(), without_data(), half_way(), bytes_and_pieces(), all_the_way_round(), packets()].concat()
+    [duplicates(), identifiers(), without_data(), half_way(), bytes_and_pieces(), all_the_way_round(), packets(), opposite()].concat()
 }

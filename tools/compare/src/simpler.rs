@@ -60,8 +60,8 @@ fn operands(call: &mut Call) -> Vec<Operand<'_>> {
         Call::RqForwardOrdered { ssn } => vec![U16(ssn)],
         Call::MNext { most } => vec![U64(most)],
         Call::PqForge { value, .. } | Call::RqForge { value, .. } | Call::MForge { value, .. } => vec![U64(value)],
-        Call::Sna32 { a, b } | Call::TsnDistance { a, b } => vec![U32(a), U32(b)],
-        Call::Sna16 { a, b } | Call::SsnDistance { a, b } => vec![U16(a), U16(b)],
+        Call::Sna32 { a, b } | Call::TsnDistance { a, b } | Call::TsnCompare { a, b } => vec![U32(a), U32(b)],
+        Call::Sna16 { a, b } | Call::SsnDistance { a, b } | Call::SsnCompare { a, b } => vec![U16(a), U16(b)],
         _ => tsns(call).into_iter().map(U32).collect(),
     }
 }

@@ -13,6 +13,8 @@ pub fn answer(call: &Call, line: &mut Vec<u8>) {
     match call {
         Call::Sna32 { a, b } => four([sna32lt(*a, *b), sna32lte(*a, *b), sna32gt(*a, *b), sna32gte(*a, *b)], line),
         Call::Sna16 { a, b } => four([sna16lt(*a, *b), sna16lte(*a, *b), sna16gt(*a, *b), sna16gte(*a, *b)], line),
+        Call::TsnCompare { a, b } => words!(line, order(sna32lt(*a, *b), sna32eq(*a, *b), sna32lt(*b, *a))),
+        Call::SsnCompare { a, b } => words!(line, order(sna16lt(*a, *b), sna16eq(*a, *b), sna16lt(*b, *a))),
         Call::Header { raw } => read(raw, line, |h: ChunkHeader, line| words!(line, "header", h.typ.0, h.flags, h.value_length as usize + CHUNK_HEADER_SIZE)),
         Call::DataUnmarshal { raw } => read(raw, line, |chunk: ChunkPayloadData, line| {
             words!(line, "data");
@@ -42,6 +44,17 @@ pub fn answer(call: &Call, line: &mut Vec<u8>) {
             write(&sack, *room, *fill, line)
         }
         _ => shown::no_call(line),
+    }
+}
+
+/// What three of the Rust's yes or no make of the four answers: before, the same, before the other way round; none of them is opposite.
+fn order(before: bool, same: bool, after: bool) -> &'static str {
+    match (before, same, after) {
+        (true, false, false) => "earlier",
+        (false, true, false) => "same",
+        (false, false, true) => "later",
+        (false, false, false) => "opposite",
+        _ => "more than one",
     }
 }
 

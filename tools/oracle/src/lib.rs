@@ -42,7 +42,8 @@ impl Oracle {
             53..57 => forward_tsn::answer(call, line),
             57 => self.tsn_queue.answer(call, line),
             58 => self.reassembly.answer(call, line),
-            59.. => packets::answer(call, line),
+            59..67 => packets::answer(call, line),
+            67.. => codec::answer(call, line),
         }
     }
 

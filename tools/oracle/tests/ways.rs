@@ -35,6 +35,28 @@ fn half_way_round_is_after_both_ways() {
 }
 
 #[test]
+fn before_and_the_same_tell_earlier_same_later_and_opposite() {
+    let tsns = [(5, 3, "later"), (u32::MAX, 0, "earlier"), (7, 7, "same"), (0, (1 << 31) - 1, "earlier"), (0, 1 << 31, "opposite"), (1 << 31, 0, "opposite"), (0, (1 << 31) + 1, "later")];
+    tsns.iter().for_each(|(a, b, order)| answered(&[(Call::TsnCompare { a: *a, b: *b }, *order)]));
+    let ssns = [(5, 3, "later"), (u16::MAX, 0, "earlier"), (7, 7, "same"), (0, (1 << 15) - 1, "earlier"), (0, 1 << 15, "opposite"), (1 << 15, 0, "opposite"), (0, (1 << 15) + 1, "later")];
+    ssns.iter().for_each(|(a, b, order)| answered(&[(Call::SsnCompare { a: *a, b: *b }, *order)]));
+}
+
+#[test]
+fn an_opposite_tsn_is_stored_and_logged_where_it_is_held() {
+    let push = |tsn, cumulative| Call::PqPush { fields: fields(B | E, tsn, 0), size: 0, cumulative };
+    answered(&[
+        (Call::PqCanPush { tsn: 1 << 31, cumulative: 0 }, "yes"),
+        (push(1 << 31, 0), "yes"),
+        (Call::PqState {}, "held 1 0 | BE 2147483648 0 0 53 0"),
+        (Call::PqPopUpTo { tsn: 0 }, "done"),
+        (Call::PqLen {}, "number 1"),
+        (push(1 << 31, 0), "no"),
+        (Call::PqPopDuplicates {}, &format!("log 1 2147483648{}", " 0".repeat(63))),
+    ]);
+}
+
+#[test]
 fn a_complete_set_half_way_round_is_not_given() {
     answered(&[(push(B | E, 1, 32768, 1), "yes"), (Call::RqIsReadable {}, "no"), (read(1), "none 00")]);
 }

@@ -38,11 +38,13 @@ pub enum Error {
     ChecksumMismatch = 14,
     /// 15: DATA without data, read or written (RFC 4960 section 3.3.1 wants a byte at least).
     NoUserData = 15,
+    /// 17: a TSN exactly 2^31 from the cumulative one, the sign of a corrupt peer.
+    OppositeTsn = 17,
 }
 
 impl Error {
     /// Every refusal, in the order of their numbers.
-    pub const ALL: [Error; 16] = [
+    pub const ALL: [Error; 17] = [
         Error::Unsound,
         Error::NoHeader,
         Error::BadLength,
@@ -59,6 +61,7 @@ impl Error {
         Error::PacketRawTooSmall,
         Error::ChecksumMismatch,
         Error::NoUserData,
+        Error::OppositeTsn,
     ];
 
     /// What a result of the library says: -1 is `Ok`. It is proved to have no other numbers than the documents'.
@@ -92,6 +95,7 @@ impl fmt::Display for Error {
             Error::PacketRawTooSmall => "a packet shorter than 12 bytes",
             Error::ChecksumMismatch => "the packet's checksum is wrong",
             Error::NoUserData => "DATA without data",
+            Error::OppositeTsn => "the TSN is half way round from the cumulative one",
         })
     }
 }

@@ -35,6 +35,8 @@ unsafe extern "C" {
     pub(crate) safe fn sctp_receive_sna16gt(i1: u16, i2: u16) -> bool;
     pub(crate) safe fn sctp_receive_sna16gte(i1: u16, i2: u16) -> bool;
     pub(crate) safe fn sctp_receive_sna16eq(i1: u16, i2: u16) -> bool;
+    pub(crate) safe fn sctp_receive_tsn_compare(a: u32, b: u32) -> u8;
+    pub(crate) safe fn sctp_receive_ssn_compare(a: u16, b: u16) -> u8;
     pub(crate) safe fn sctp_receive_payload_queue_new(count: &mut usize, n_bytes: &mut usize, dups: &mut usize,
         dup_tsn: &mut [u32; LOG]);
     pub(crate) safe fn sctp_receive_payload_queue_can_push(count: usize, n_bytes: usize, dups: usize, dup_tsn: &[u32; LOG],

@@ -61,7 +61,8 @@ impl PayloadQueue {
         q
     }
 
-    /// Whether the TSN is neither held nor at or before the cumulative one.
+    /// Whether the TSN is neither held nor at or before the cumulative one. Also of one that is opposite to the cumulative one, which
+    /// [`push`](Self::push) refuses.
     #[inline]
     pub fn can_push(&self, tsn: u32, cumulative_tsn: u32) -> bool {
         let (q, mut is) = (self, false);
@@ -72,7 +73,7 @@ impl PayloadQueue {
     }
 
     /// Stores a chunk of `size` data bytes by its TSN: true; or logs its TSN, where it is held or at or before the cumulative one: false.
-    /// [`Error::Full`] where 1,024 are held.
+    /// [`Error::OppositeTsn`], ahead of these and with no logging, where it is opposite to the cumulative one; [`Error::Full`] where 1,024 are held.
     #[inline]
     pub fn push(&mut self, p: &ChunkPayloadData, size: u16, cumulative_tsn: u32) -> Result<bool, Error> {
         let (q, mut is) = (self, false);

@@ -33,3 +33,38 @@ order! {
     /// Are the SSNs i1 and i2 the same?
     sna16eq(u16) = sctp_receive_sna16eq;
 }
+
+/// How a number stands to another: by the distance from it to the other, which is above 0, 0, below 0, or, at exactly half way, the lowest value.
+#[derive(Clone, Copy, Debug, PartialEq, Eq, Hash)]
+#[repr(u8)]
+pub enum Order {
+    /// It is before the other.
+    Earlier = 0,
+    /// They are the same.
+    Same = 1,
+    /// It is after the other.
+    Later = 2,
+    /// They are half way round from each other, and neither is before the other: the sign of a corrupt peer.
+    Opposite = 3,
+}
+
+impl Order {
+    /// The four answers, in the order of their numbers.
+    pub const ALL: [Order; 4] = [Order::Earlier, Order::Same, Order::Later, Order::Opposite];
+
+    /// The answer of a number. The library is proved to have no others.
+    fn of(number: u8) -> Order {
+        debug_assert!(number < 4, "no answer {number}");
+        Self::ALL[number as usize % 4]
+    }
+}
+
+/// How the TSN a stands to b.
+pub fn tsn_compare(a: u32, b: u32) -> Order {
+    Order::of(ffi::sctp_receive_tsn_compare(a, b))
+}
+
+/// How the SSN a stands to b.
+pub fn ssn_compare(a: u16, b: u16) -> Order {
+    Order::of(ffi::sctp_receive_ssn_compare(a, b))
+}

@@ -1,5 +1,7 @@
 //! Nothing else checks the declarations of src/ffi.rs and of include/sctp_receive.h: here both are held to the signatures of the Rattle source that the
 //! library is compiled from. Names, number, order and types of the parameters, results, and the sizes.
+use sctp_receive::Error;
+use sctp_receive::serial::Order;
 use std::collections::BTreeMap;
 use std::fs;
 use std::path::{Path, PathBuf};
@@ -176,12 +178,12 @@ fn header_text() -> String {
 #[test]
 fn every_function_is_declared_as_it_is_written() {
     let (rattle, ffi, header) = (rattle(), ffi(&text("host/rust/sctp-receive/src/ffi.rs")), header(&header_text()));
-    assert_eq!(rattle.len(), 54, "{:?}", rattle.keys());
+    assert_eq!(rattle.len(), 56, "{:?}", rattle.keys());
     for (name, written) in &rattle {
         assert_eq!(Some(written), ffi.get(name), "src/ffi.rs: {name}");
         assert_eq!(Some(written), header.get(name), "sctp_receive.h: {name}");
     }
-    assert_eq!((ffi.len(), header.len()), (54, 54));
+    assert_eq!((ffi.len(), header.len()), (56, 56));
 }
 
 /// A wrong declaration is seen: two parameters changed about, one left out, another width, another size.
@@ -199,6 +201,7 @@ fn wrong_declarations_are_seen() {
         ("uint8_t *buffer, size_t buffer_len, bool *found", "const uint8_t *buffer, size_t buffer_len, bool *found"),
         ("uint16_t *source_port, uint16_t *destination_port", "uint16_t *destination_port, uint16_t *source_port"),
         ("uint32_t sctp_receive_crc32c(", "int32_t sctp_receive_crc32c("),
+        ("uint8_t sctp_receive_tsn_compare(", "bool sctp_receive_tsn_compare("),
         ("int32_t sctp_receive_chunks_len(", "uint32_t sctp_receive_chunks_len("),
     ] {
         assert!(right.contains(is), "{is}");
@@ -246,5 +249,9 @@ fn sizes_and_numbers() {
     ];
     for (number, name) in (-1..).zip(refusals) {
         assert_eq!(macros[&format!("SCTP_RECEIVE_{name}")], number, "{name}");
+    }
+    assert_eq!(macros["SCTP_RECEIVE_OPPOSITE_TSN"], Error::OppositeTsn as i32);
+    for (order, name) in Order::ALL.into_iter().zip(["EARLIER", "SAME", "LATER", "OPPOSITE"]) {
+        assert_eq!(macros[&format!("SCTP_RECEIVE_{name}")], order as i32, "{name}");
     }
 }

@@ -46,6 +46,7 @@ struct Seen {
     no: u32,
     full: u32,
     large: u32,
+    opposite: u32,
     short: u32,
     found: u32,
     applied: u32,
@@ -59,6 +60,7 @@ impl Seen {
             Ok(false) => self.no += 1,
             Err(Error::Full) => self.full += 1,
             Err(Error::InboundPacketTooLarge) => self.large += 1,
+            Err(Error::OppositeTsn) => self.opposite += 1,
             Err(e) => panic!("{e}"),
         }
     }
@@ -82,9 +84,10 @@ fn tsn_queue() {
             let (chunk, size) = (r.chunk(base, span), r.below(65_536) as u16);
             match r.below(100) {
                 0..70 => {
-                    assert_eq!(q.can_push(chunk.tsn, cumulative), m.can_push(chunk.tsn, cumulative));
-                    let wanted = m.push(chunk, size, cumulative);
-                    assert_eq!(q.push(&chunk, size, cumulative), wanted);
+                    let from = if r.often(3) { chunk.tsn.wrapping_add(1 << 31) } else { cumulative };
+                    assert_eq!(q.can_push(chunk.tsn, from), m.can_push(chunk.tsn, from));
+                    let wanted = m.push(chunk, size, from);
+                    assert_eq!(q.push(&chunk, size, from), wanted);
                     seen.count(wanted);
                 }
                 70..85 => {
@@ -121,7 +124,7 @@ fn tsn_queue() {
         }
     }
     assert!(seen.yes > 1_000 && seen.no > 1_000 && seen.full > 100 && seen.found > 100 && seen.short > 100, "{seen:?}");
-    assert!(seen.applied > 100 && seen.unchanged > 100, "{seen:?}");
+    assert!(seen.opposite > 100 && seen.applied > 100 && seen.unchanged > 100, "{seen:?}");
 }
 
 /// The report into lists of so many places, which may be too few; what stands behind the blocks stays.

@@ -33,6 +33,33 @@ fn p1_order() {
 }
 
 #[test]
+fn four_answers_of_a_comparison() {
+    use Order::{Earlier, Later, Opposite, Same};
+    let tsns = [(5, 3), (u32::MAX, 0), (7, 7), (0, (1 << 31) - 1), (0, 1 << 31), (1 << 31, 0), (0, (1 << 31) + 1)];
+    assert_eq!(tsns.map(|(a, b)| tsn_compare(a, b)), [Later, Earlier, Same, Earlier, Opposite, Opposite, Later]);
+    let ssns = [(5, 3), (u16::MAX, 0), (7, 7), (0, (1 << 15) - 1), (0, 1 << 15), (1 << 15, 0), (0, (1 << 15) + 1)];
+    assert_eq!(ssns.map(|(a, b)| ssn_compare(a, b)), [Later, Earlier, Same, Earlier, Opposite, Opposite, Later]);
+    for (a, b) in (0..=u16::MAX).flat_map(|b| [(0, b), (40_000, b), (b, 65_535)]) {
+        let (order, back) = (ssn_compare(a, b), ssn_compare(b, a));
+        assert_eq!((order == Earlier, order == Same, order == Later), (sna16lt(a, b), sna16eq(a, b), sna16gt(a, b)), "{a} {b}");
+        assert_eq!(back, [Later, Same, Earlier, Opposite][order as usize], "{a} {b}");
+        let (high, low) = ((a as u32) << 16, (b as u32) << 16);
+        assert_eq!(tsn_compare(high, low), order, "{high} {low}");
+    }
+}
+
+#[test]
+fn an_opposite_tsn_is_refused_and_not_logged() {
+    let mut queue = PayloadQueue::new();
+    let chunk = |tsn| ChunkPayloadData { tsn, ..ChunkPayloadData::default() };
+    assert!(queue.can_push(1 << 31, 0));
+    assert_eq!(queue.push(&chunk(1 << 31), 1, 0), Err(Error::OppositeTsn));
+    assert_eq!((queue.push(&chunk(1 << 31), 1, 1), queue.push(&chunk(1 << 31), 1, 0)), (Ok(true), Err(Error::OppositeTsn)));
+    queue.pop_up_to(0);
+    assert_eq!((queue.len(), queue.pop_duplicates().count), (1, 0));
+}
+
+#[test]
 fn p2_data() {
     let fields = ChunkPayloadData {
         stream_identifier: 2,

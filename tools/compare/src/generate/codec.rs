@@ -28,11 +28,13 @@ pub fn serials(m: &mut Maker) {
         let (a, b) = (m.rng.number(), near.wrapping_add(far));
         let a = m.rng.pick(&[a, a % 3, 0u64.wrapping_sub(a % 3)]);
         let (a32, b32, a16, b16) = (a as u32, a.wrapping_add(b) as u32, a as u16, a.wrapping_add(b) as u16);
-        let call = match m.rng.below(4) {
+        let call = match m.rng.below(6) {
             0 => Call::Sna32 { a: a32, b: b32 },
             1 => Call::Sna16 { a: a16, b: b16 },
             2 => Call::TsnDistance { a: a32, b: b32 },
-            _ => Call::SsnDistance { a: a16, b: b16 },
+            3 => Call::SsnDistance { a: a16, b: b16 },
+            4 => Call::TsnCompare { a: a32, b: b32 },
+            _ => Call::SsnCompare { a: a16, b: b16 },
         };
         match call {
             Call::Sna32 { .. } | Call::Sna16 { .. } if m.rng.one_in(9) => m.put(call),

@@ -2,6 +2,7 @@
 use super::{Maker, forge, forward};
 use crate::Mode;
 use crate::coverage::Event;
+use crate::domain;
 use crate::model::tsns::{LOG, TSNS};
 use crate::rng::Rng;
 use calls::{Call, Fields, LIST_MOST};
@@ -31,6 +32,24 @@ pub fn run(m: &mut Maker) {
         m.call(Call::PqPopUpTo { tsn });
         ask(m, tsn);
         m.put(Call::PqState {});
+    }
+    if m.rng.one_in(3) {
+        opposed(m);
+    }
+}
+
+/// A TSN opposite to the cumulative one, held or beside what is held: difference 24. The Rust stores it, or logs it, so in mode `in` a fresh queue follows.
+fn opposed(m: &mut Maker) {
+    let cumulative = m.rng.number() as u32;
+    let tsn = some_tsn(m, cumulative);
+    let fields = Fields { tsn, identifier: m.identifier(), ..Fields::default() };
+    let call = Call::PqPush { fields, size: 1, cumulative: tsn.wrapping_add(1 << 31) };
+    if m.mode == Mode::Out {
+        m.put(call);
+        m.put(Call::PqWhole {});
+    } else if domain::opposed(&m.model, &call) {
+        m.put(call);
+        m.put(Call::PqNew {});
     }
 }
 

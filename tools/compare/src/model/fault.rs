@@ -67,6 +67,13 @@ faults! {
     BytesPadded "a chunk's bytes come with its padding"
     PaddedWithOnes "padding is not written as zeros"
     RoomBeforeChunks "the room is tested before the chunks that are lent"
+    OppositeLater "a number half way round is told as later, and its TSN stored"
+    OppositeLogged "a TSN opposite to the cumulative one is refused with 17 and logged"
+    HeldBeforeOpposite "a TSN that is held is tested before 17"
+    RoomBeforeOpposite "the room is tested before 17"
+    CanPushNotOpposite "can_push says no to a TSN opposite to the cumulative one"
+    OppositePopped "pop_up_to drops an opposite TSN"
+    SkipStopsAtOpposite "an unordered skip stops at an opposite TSN, as the Rust's"
 }
 
 /// Which mistake is made, if any.

@@ -4,7 +4,7 @@
 //! ordered sets. What is held afterwards goes to the front of both, and the rest of each stays as it was.
 use super::fault::Fault;
 use super::rows::{Row, place};
-use super::serial::Serial;
+use super::serial::{Order, Serial};
 use calls::{Fields, POOL, U};
 use std::ops::Range;
 
@@ -315,7 +315,8 @@ impl Reassembly {
         self.sound()?;
         let mut lists = self.view();
         let before = self.bytes;
-        let stay = lists.loose.iter().position(|f| self.serial.tsn_before(t, f.row.tsn)).unwrap_or(lists.loose.len());
+        let stops = |tsn| self.serial.wrong.is(Fault::SkipStopsAtOpposite) && self.serial.compared(32, tsn, t) == Order::Opposite;
+        let stay = lists.loose.iter().position(|f| self.serial.tsn_before(t, f.row.tsn) || stops(f.row.tsn)).unwrap_or(lists.loose.len());
         lists.loose.drain(..stay);
         self.lay(&lists);
         if self.serial.wrong.is(Fault::SkipKeepsBytes) {

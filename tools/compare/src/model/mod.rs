@@ -45,7 +45,7 @@ impl Model {
 impl Answers for Model {
     fn answer(&mut self, call: &Call, line: &mut Vec<u8>) {
         match call.number() {
-            1..=14 => self.answer_codec(call, line),
+            1..=14 | 67 | 68 => self.answer_codec(call, line),
             16..=31 => self.answer_tsns(call, line),
             32..=41 => self.answer_reassembly(call, line),
             53..=58 => self.answer_forward(call, line),
@@ -118,6 +118,8 @@ impl Model {
             }
             Call::TsnDistance { a, b } => words!(line, serial::distance(32, *a, *b)),
             Call::SsnDistance { a, b } => words!(line, serial::distance(16, *a as u32, *b as u32)),
+            Call::TsnCompare { a, b } => words!(line, serial.compared(32, *a, *b).word()),
+            Call::SsnCompare { a, b } => words!(line, serial.compared(16, *a as u32, *b as u32).word()),
             Call::Header { raw } => told(codec::header(raw, wrong), line, |h, line| words!(line, "header", h.kind, h.flags, h.length)),
             Call::DataUnmarshal { raw } => told(codec::data(raw, wrong), line, |(fields, _), line| {
                 words!(line, "data");

@@ -8,6 +8,26 @@ pub fn distance(width: u32, a: u32, b: u32) -> i64 {
     if ahead >= round / 2 { ahead - round } else { ahead }
 }
 
+/// How a number stands to another (document 02, M-107).
+#[derive(Clone, Copy, Debug, PartialEq, Eq)]
+pub enum Order {
+    Earlier,
+    Same,
+    Later,
+    Opposite,
+}
+
+impl Order {
+    pub fn word(self) -> &'static str {
+        match self {
+            Order::Earlier => "earlier",
+            Order::Same => "same",
+            Order::Later => "later",
+            Order::Opposite => "opposite",
+        }
+    }
+}
+
 /// How numbers are compared. TSNs have 32 bits, SSNs 16.
 #[derive(Clone, Copy, Default)]
 pub struct Serial {
@@ -19,6 +39,17 @@ impl Serial {
     fn before(self, width: u32, a: u32, b: u32) -> bool {
         let d = distance(width, a, b);
         d > 0 || self.wrong.is(Fault::HalfWayBefore) && d == -(1i64 << (width - 1)) && a < b
+    }
+
+    /// By the distance: above 0, 0, below 0, and apart from these exactly half way.
+    pub fn compared(self, width: u32, a: u32, b: u32) -> Order {
+        let opposite = if self.wrong.is(Fault::OppositeLater) { Order::Later } else { Order::Opposite };
+        match distance(width, a, b) {
+            0 => Order::Same,
+            1.. => Order::Earlier,
+            d if d == -(1i64 << (width - 1)) => opposite,
+            _ => Order::Later,
+        }
     }
 
     pub fn tsn_before(self, a: u32, b: u32) -> bool {

@@ -44,6 +44,24 @@ fn p1_distances() {
     assert_eq!(alone(Call::Sna16 { a: 32768, b: 0 }), "no no no no");
 }
 
+#[test]
+fn four_answers_of_a_comparison() {
+    let tsns = [(5, 3), (u32::MAX, 0), (7, 7), (0, (1 << 31) - 1), (0, 1 << 31), (1 << 31, 0), (0, (1 << 31) + 1)];
+    assert_eq!(tsns.map(|(a, b)| alone(Call::TsnCompare { a, b })), ["later", "earlier", "same", "earlier", "opposite", "opposite", "later"]);
+    let ssns = [(5, 3), (u16::MAX, 0), (7, 7), (0, (1 << 15) - 1), (0, 1 << 15), (1 << 15, 0), (0, (1 << 15) + 1)];
+    assert_eq!(ssns.map(|(a, b)| alone(Call::SsnCompare { a, b })), ["later", "earlier", "same", "earlier", "opposite", "opposite", "later"]);
+}
+
+#[test]
+fn an_opposite_tsn_is_refused_before_the_duplicate_test_and_not_logged() {
+    let mut model = Model::new();
+    let push = |model: &mut Model, tsn, cumulative| line(model, Call::PqPush { fields: Fields { tsn, ..Fields::default() }, size: 1, cumulative });
+    assert_eq!([push(&mut model, 1 << 31, 0), push(&mut model, 1 << 31, 1), push(&mut model, 1 << 31, 0)], ["refused 17", "yes", "refused 17"]);
+    assert_eq!((model.tsns.count, model.tsns.dups), (1, 0));
+    assert_eq!([line(&mut model, Call::PqCanPush { tsn: 1, cumulative: 1 + (1 << 31) }), line(&mut model, Call::PqCanPush { tsn: 1 << 31, cumulative: 0 })], ["yes", "no"]);
+    assert_eq!([line(&mut model, Call::PqPopUpTo { tsn: 0 }), line(&mut model, Call::PqLen {})], ["done", "number 1"]);
+}
+
 const P2: &str = "00 03 00 13 00 00 00 0A 00 02 00 05 00 00 00 33 61 62 63";
 
 #[test]

@@ -1,7 +1,7 @@
 //! The TSN queue: document 01, 'The TSN queue'. A refusal is `Err` with its number.
 use super::fault::Fault;
 use super::rows::{Row, place};
-use super::serial::Serial;
+use super::serial::{Order, Serial};
 use calls::Fields;
 
 /// At most 1,024 TSNs and 64 logged duplicates.
@@ -59,18 +59,45 @@ impl Tsns {
         self.held().iter().any(|r| r.tsn == tsn) || self.serial.tsn_at_or_before(tsn, cumulative)
     }
 
+    /// "Distance exactly 2^31" (document 02, M-107).
+    pub fn opposite(&self, tsn: u32, cumulative: u32) -> bool {
+        self.serial.compared(32, tsn, cumulative) == Order::Opposite
+    }
+
+    fn logged(&mut self, tsn: u32) {
+        if let Some(free) = self.log.get_mut(self.dups as usize) {
+            *free = tsn;
+            self.dups += 1;
+        }
+    }
+
+    /// 17: the TSN is opposite to the cumulative one. Before the duplicate test, and with no logging.
+    fn refused(&mut self, tsn: u32, cumulative: u32) -> Result<(), u8> {
+        let wrong = self.serial.wrong;
+        let held = wrong.is(Fault::HeldBeforeOpposite) && self.turned_away(tsn, cumulative);
+        if !self.opposite(tsn, cumulative) || held {
+            return Ok(());
+        }
+        if wrong.is(Fault::RoomBeforeOpposite) && self.count == TSNS as u64 {
+            return Err(8);
+        }
+        if wrong.is(Fault::OppositeLogged) {
+            self.logged(tsn);
+        }
+        Err(17)
+    }
+
     pub fn can_push(&self, tsn: u32, cumulative: u32) -> Result<bool, u8> {
         self.sound()?;
-        Ok(!self.turned_away(tsn, cumulative))
+        let refused = self.serial.wrong.is(Fault::CanPushNotOpposite) && self.opposite(tsn, cumulative);
+        Ok(!refused && !self.turned_away(tsn, cumulative))
     }
 
     pub fn push(&mut self, fields: &Fields, size: u16, cumulative: u32) -> Result<bool, u8> {
         self.sound()?;
+        self.refused(fields.tsn, cumulative)?;
         if self.turned_away(fields.tsn, cumulative) {
-            if let Some(free) = self.log.get_mut(self.dups as usize) {
-                *free = fields.tsn;
-                self.dups += 1;
-            }
+            self.logged(fields.tsn);
             return Ok(false);
         }
         if self.count == TSNS as u64 {
@@ -98,7 +125,8 @@ impl Tsns {
     /// Drops every TSN at or before the given one.
     pub fn pop_up_to(&mut self, tsn: u32) -> Result<(), u8> {
         self.sound()?;
-        let kept = self.held().iter().filter(|r| !self.serial.tsn_at_or_before(r.tsn, tsn)).copied().collect();
+        let opposite = |r: &Row| self.serial.wrong.is(Fault::OppositePopped) && self.opposite(r.tsn, tsn);
+        let kept = self.held().iter().filter(|r| !self.serial.tsn_at_or_before(r.tsn, tsn) && !opposite(r)).copied().collect();
         self.lay(kept);
         Ok(())
     }

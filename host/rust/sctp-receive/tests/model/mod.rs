@@ -28,6 +28,9 @@ impl Tsns {
     }
 
     pub fn push(&mut self, chunk: ChunkPayloadData, size: u16, cumulative: u32) -> Result<bool, Error> {
+        if chunk.tsn.wrapping_sub(cumulative) == 1 << 31 {
+            return Err(Error::OppositeTsn);
+        }
         if !self.can_push(chunk.tsn, cumulative) {
             if self.log.len() < 64 {
                 self.log.push(chunk.tsn);
