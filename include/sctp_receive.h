@@ -37,7 +37,7 @@ extern "C" {
 
 #define SCTP_RECEIVE_OK (-1)            /* nothing was refused */
 #define SCTP_RECEIVE_UNSOUND 0          /* a queue or message whose numbers contradict its table, pool or buffer */
-#define SCTP_RECEIVE_NO_HEADER 1        /* fewer than 4 bytes lent, or left at a place of a packet */
+#define SCTP_RECEIVE_NO_HEADER 1        /* fewer than 4 bytes lent, left at a place of a packet, or in a cause that holds a chunk */
 #define SCTP_RECEIVE_BAD_LENGTH 2       /* chunk length below 4 or above these bytes */
 #define SCTP_RECEIVE_OTHER_TYPE 3       /* not the chunk type asked for */
 #define SCTP_RECEIVE_SHORT_DATA 4       /* DATA length below 16 */
@@ -46,12 +46,13 @@ extern "C" {
 #define SCTP_RECEIVE_SHORT_BUFFER 7     /* whole read: the buffer is too short; what fits was written */
 #define SCTP_RECEIVE_FULL 8             /* no room is left in the table or the pool */
 #define SCTP_RECEIVE_TOO_LONG 9         /* writers: more than a chunk can hold, or lists of unequal length */
-#define SCTP_RECEIVE_NO_ROOM 10         /* write or take buffer, or a gap report list, too short */
+#define SCTP_RECEIVE_NO_ROOM 10         /* write or take buffer, or a list of a gap report or of causes, too short */
 #define SCTP_RECEIVE_PAST_THE_LIST 11   /* list index at or past its count; place below 12 or past the packet */
 #define SCTP_RECEIVE_BAD_FORWARD 12     /* FORWARD TSN length below 8, or not 8 plus a multiple of 4 */
 #define SCTP_RECEIVE_SHORT_PACKET 13    /* packet of fewer than 12 bytes */
 #define SCTP_RECEIVE_BAD_CHECKSUM 14    /* packet with a wrong checksum */
 #define SCTP_RECEIVE_NO_DATA 15         /* DATA without data: length 16, or nothing to write */
+#define SCTP_RECEIVE_BAD_CAUSE 16       /* 1 to 3 bytes where a cause should start, or its length below 4 or past its chunk */
 #define SCTP_RECEIVE_OPPOSITE_TSN 17    /* a TSN exactly 2^31 from the cumulative one: the sign of a corrupt peer */
 
 /* ---- sizes ---- */
@@ -151,6 +152,20 @@ int32_t sctp_receive_forward_tsn_stream_at(const uint8_t *part, size_t part_len,
 int32_t sctp_receive_forward_tsn_marshal_to(uint8_t *out, size_t out_len, uint32_t new_cumulative_tsn,
                                             const uint16_t *identifiers, size_t identifiers_len,
                                             const uint16_t *sequences, size_t sequences_len, size_t *n);
+
+/* ---- ERROR and ABORT: why the peer reports an error or gives up ----
+ * Each cause's code, its depth (0 for the chunk's own causes; under code 6 a cause may hold a chunk, and the causes of an ERROR or ABORT
+ * chunk in there are one deeper), where its value starts in `raw`, and the value's length, to the front of four lists, outer before inner;
+ * `*n` is how many causes there are, and the rest of each list stays. A chunk has at most 16,382 causes, at most 8,190 deep, and each depth
+ * is a call of its own: see docs/BENCH.md for the stack that takes. Refuse 1, 2, 3, then the first fault in reading order: 16, or 1 or 2 of
+ * an enclosed chunk; and 10 where nothing else is wrong and a list is too short. */
+
+int32_t sctp_receive_error_unmarshal(const uint8_t *raw, size_t raw_len, uint16_t *codes, size_t codes_len,
+                                     uint16_t *depths, size_t depths_len, uint16_t *starts, size_t starts_len,
+                                     uint16_t *sizes, size_t sizes_len, size_t *n);
+int32_t sctp_receive_abort_unmarshal(const uint8_t *raw, size_t raw_len, uint16_t *codes, size_t codes_len,
+                                     uint16_t *depths, size_t depths_len, uint16_t *starts, size_t starts_len,
+                                     uint16_t *sizes, size_t sizes_len, size_t *n);
 
 /* ---- packets: the common header of 12 bytes, with the checksum, and chunks behind it, each padded to a multiple of 4 bytes ----
  * A walk over the chunks is the packet and a place in it, and C keeps both: it starts at SCTP_RECEIVE_FIRST_CHUNK and goes on at

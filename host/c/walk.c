@@ -2,8 +2,8 @@
  * walk.c: the C interface, walked through once. An image goes out in four DATA chunks and arrives out of order, over the wrap of the
  * TSNs, one chunk twice. Each chunk is read and pushed to the TSN queue and to reassembly; the gap report goes into a SACK,
  * which is read back. Then the message is taken and read, whole and in pieces. Of the next message one piece comes, and the
- * sender gives it up: its FORWARD TSN is read and applied to both queues. Last, a packet of two DATA chunks is written, read and
- * walked. Every answer is checked: the last line says how many, and the program ends with 1 where one is not what documents 01
+ * sender gives it up: its FORWARD TSN is read and applied to both queues. A packet of two DATA chunks is written, read and walked.
+ * Last, the causes of an ERROR are read. Every answer is checked: the last line says how many, and the program ends with 1 where one is not what documents 01
  * and 02 say.
  */
 #include <stdio.h>
@@ -330,6 +330,31 @@ static void walk_packet(void)
     same("and 0 beside it", (long long)source + destination + tag, 0);
 }
 
+/* Reads an ERROR: its first cause holds an ABORT with a cause of its own, its second is a text. */
+static void read_causes(void)
+{
+    static const uint8_t raw[] = {9, 0, 0, 33, 0, 6, 0, 18, 6, 0, 0, 14, 0, 12, 0, 10, 'l', 'o', 'a', 'd', 'e', 'r', 0, 0,
+                                  0, 13, 0, 9, 'c', 'l', 'o', 's', 'e'};
+    uint16_t codes[4] = {7, 7, 7, 7}, depths[4] = {7, 7, 7, 7}, starts[4] = {7, 7, 7, 7}, sizes[4] = {7, 7, 7, 7};
+    size_t n = 7, i;
+    same("a list of two", sctp_receive_error_unmarshal(raw, sizeof raw, codes, 4, depths, 4, starts, 2, sizes, 4, &n), SCTP_RECEIVE_NO_ROOM);
+    same("leaves the lists", n == 0 && codes[0] == 7 && depths[0] == 7 && starts[0] == 7 && sizes[0] == 7, true);
+    same("an ABORT is not an ERROR", sctp_receive_abort_unmarshal(raw, sizeof raw, codes, 4, depths, 4, starts, 4, sizes, 4, &n),
+         SCTP_RECEIVE_OTHER_TYPE);
+    same("the ABORT in it", sctp_receive_abort_unmarshal(raw + 8, 14, codes, 4, depths, 4, starts, 4, sizes, 4, &n), SCTP_RECEIVE_OK);
+    same("has one cause", n == 1 && codes[0] == 12 && depths[0] == 0 && starts[0] == 8 && sizes[0] == 6 && codes[1] == 7, true);
+    same("the causes are read", sctp_receive_error_unmarshal(raw, sizeof raw, codes, 4, depths, 4, starts, 4, sizes, 4, &n), SCTP_RECEIVE_OK);
+    printf("causes:");
+    for (i = 0; i < n; i++)
+        printf(" %u at depth %u of %u bytes", codes[i], depths[i], sizes[i]);
+    printf("\n");
+    same("three", n == 3 && codes[0] == 6 && codes[1] == 12 && codes[2] == 13 && codes[3] == 7, true);
+    same("their depths", depths[0] == 0 && depths[1] == 1 && depths[2] == 0, true);
+    same("where their values stand", starts[0] == 8 && starts[1] == 16 && starts[2] == 28, true);
+    same("the enclosed cause's value", memcmp(raw + starts[1], "loader", sizes[1]), 0);
+    same("the last one's", memcmp(raw + starts[2], "close", sizes[2]), 0);
+}
+
 /* How numbers stand to each other: over the wrap, and one short of half way, at half way and one past it. */
 static void compare(void)
 {
@@ -394,6 +419,7 @@ int main(void)
     read_message();
     give_up();
     walk_packet();
+    read_causes();
     compare();
     refused();
     printf("%u checks, %u wrong\n", checks, wrong);

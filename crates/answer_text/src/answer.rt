@@ -74,11 +74,13 @@ pub const PACKET: u8 = 24;
 
 pub const WALK: u8 = 25;
 
+pub const CAUSES: u8 = 26;
+
 // So many bytes, of which those from a low line on are none of the word.
 const WIDTH: usize = 15;
 
-const WORDS: [u8; 390] =
-    *b"yes____________no_____________done___________none___________refused________number_________tsn____________header_________data___________part___________wrote__________sack___________block__________chunk__________log____________blocks_________held___________whole__________message________piece__________queue__________forward________stream_________nothing in handpacket_________walk___________";
+const WORDS: [u8; 405] =
+    *b"yes____________no_____________done___________none___________refused________number_________tsn____________header_________data___________part___________wrote__________sack___________block__________chunk__________log____________blocks_________held___________whole__________message________piece__________queue__________forward________stream_________nothing in handpacket_________walk___________causes_________";
 
 // The letters of the flags, a space in front, each set of them in its five bytes.
 const LETTERS: [u8; 80] =
@@ -157,7 +159,7 @@ pub fn write_fields(told: Answer, out: &mut [u8; SPACE], at: usize) -> usize {
 
 fn word(w: u8, out: &mut [u8; SPACE], at: usize) -> usize {
     let words = WORDS;
-    let from = WIDTH * (w % 26) as usize;
+    let from = WIDTH * (w % 27) as usize;
     out::text(out, at, out::trimmed(&words, from, from + WIDTH))
 }
 

@@ -1,6 +1,7 @@
 // How long a call is. Longer than any stream: its number is none, or an operand is above what is said of it.
 use crate::operands;
 use crate::operands::BYTES;
+use crate::operands::CAUSES;
 use crate::operands::NUMBERS;
 
 pub const MALFORMED: usize = usize::MAX;
@@ -11,10 +12,10 @@ pub const CALLS: u8 = 69;
 pub const PLACES: usize = 9;
 
 // A letter for each operand of each call, in the order of their numbers, from 0 on. 1, 2, 4 and 8 a number of so many bytes, f flags (so f4224 are fields),
-// r a raw, d data, s shorts, w words, b a room of bytes, n one of numbers; q, t and m what is forged of a TSN queue, of a reassembly queue, of a message in
+// r a raw, d data, s shorts, w words, b a room of bytes, n one of numbers, c one of causes; q, t and m what is forged of a TSN queue, of a reassembly queue, of a message in
 // hand. ? is the number of no call.
 const FORMS: [u8; 621] =
-    *b"?        44       22       44       22       r        r        r        b1f4224d r        r        r        r8       r8       b144ssw  ?                 44       f422424  4        4        4                 4nn2                                         2                 q28               24       f4224d            b1       2        4                          t28               ?        ?        ?        ?        ?        ?                          b1       8        m8       r        r        r8       b14ss    44       r44      r        r        r8       r8       r        b1224r   ?        ?        44       22       ";
+    *b"?        44       22       44       22       r        r        r        b1f4224d r        r        r        r8       r8       b144ssw  ?                 44       f422424  4        4        4                 4nn2                                         2                 q28               24       f4224d            b1       2        4                          t28               ?        ?        ?        ?        ?        ?                          b1       8        m8       r        r        r8       b14ss    44       r44      r        r        r8       r8       r        b1224r   rcccc2   rcccc2   44       22       ";
 
 // The letter of an operand; a space behind the last one.
 pub fn letter(number: u8, operand: usize) -> u8 {
@@ -62,6 +63,7 @@ fn size(s: &[u8], at: usize, letter: u8) -> usize {
         b's' => shorts(operands::count_at(s, at)),
         b'w' => words(operands::count_at(s, at)),
         b'n' => within(operands::count_at(s, at), NUMBERS, 2),
+        b'c' => within(operands::count_at(s, at), CAUSES, 2),
         _ => forged(operands::u8_at(s, at), letter),
     }
 }

@@ -8,6 +8,9 @@ pub const BYTES: usize = 65600;
 // The most numbers of a list, lent or given.
 pub const NUMBERS: usize = 16400;
 
+// The most places of a lent list of causes, of which a line has four.
+pub const CAUSES: usize = 10000;
+
 pub fn u8_at(s: &[u8], at: usize) -> u8 {
     if at < s.len() { s[at] } else { 0 }
 }
@@ -79,6 +82,15 @@ pub fn raw(call: &[u8]) -> &[u8] {
 pub fn index(call: &[u8]) -> usize {
     let behind = std::num::wrapping_add_usize(5, size_at(call, 1));
     u64_at(call, behind) as usize
+}
+
+// What stands behind that raw.
+pub fn behind_raw(call: &[u8]) -> &[u8] {
+    part(
+        call,
+        std::num::wrapping_add_usize(5, size_at(call, 1)),
+        call.len(),
+    )
 }
 
 // The fields of a chunk that stand in front.

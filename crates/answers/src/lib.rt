@@ -16,7 +16,7 @@ use answer_tsns::reports;
 use state::State;
 
 // By the call's number, who does it: the codecs, the TSN queue, the reassembly queue, the message in hand, packets; or a list is written.
-const KINDS: [u8; 69] = *b"cllllcclccllccccttttttlltttttlttffffffflffffffffhhhhhclcctfpppllpccll";
+const KINDS: [u8; 69] = *b"cllllcclccllccccttttttlltttttlttffffffflffffffffhhhhhclcctfpppllpllll";
 
 fn kind(call: &[u8]) -> u8 {
     let kinds = KINDS;
@@ -137,6 +137,7 @@ fn listed(
             shown::stands(fragments.queue, out, state.at, table, pool),
         ),
         62 | 63 => state::written(state, answer_packets::written(call, out, state.at)),
+        65 | 66 => state::written(state, answer_causes::written(call, out, state.at)),
         _ => state::written(state, answer_codecs::written(call, out, state.at)),
     }
 }

@@ -68,7 +68,7 @@ fn undashed(word: &[u8]) -> &[u8] {
 fn top(letter: u8) -> u64 {
     match letter {
         b'1' | b'q' | b't' | b'm' => 1,
-        b'2' | b'n' => TOP16,
+        b'2' | b'n' | b'c' => TOP16,
         b'4' | b'b' => TOP32,
         b'8' => 72057594037927936,
         _ => 0,

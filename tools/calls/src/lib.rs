@@ -6,6 +6,8 @@ pub mod line;
 pub const BYTES_MOST: usize = 65_600;
 /// Most numbers of a list, or of a lent list.
 pub const LIST_MOST: usize = 16_400;
+/// Most places of a lent list of causes.
+pub const CAUSES_MOST: usize = 10_000;
 /// The bytes of the pool, of which a part is lent.
 pub const POOL: usize = 72_000;
 
@@ -130,6 +132,8 @@ calls! {
     62 PacketBytes { raw: Vec<u8>, place: u64 }
     63 PacketWalk { raw: Vec<u8> }
     64 PacketMarshal { room: u32, fill: u8, source: u16, destination: u16, tag: u32, chunks: Vec<u8> }
+    65 ErrorUnmarshal { raw: Vec<u8>, codes: u16, depths: u16, starts: u16, sizes: u16, fill: u16 }
+    66 AbortUnmarshal { raw: Vec<u8>, codes: u16, depths: u16, starts: u16, sizes: u16, fill: u16 }
     67 TsnCompare { a: u32, b: u32 }
     68 SsnCompare { a: u16, b: u16 }
 }
@@ -145,6 +149,9 @@ impl Call {
             | Call::RqRead { room, .. }
             | Call::MRead { room, .. } => *room as usize <= BYTES_MOST,
             Call::PqGapAckBlocks { starts, ends, .. } => (*starts).max(*ends) as usize <= LIST_MOST,
+            Call::ErrorUnmarshal { codes, depths, starts, sizes, .. } | Call::AbortUnmarshal { codes, depths, starts, sizes, .. } => {
+                *codes.max(depths).max(starts).max(sizes) as usize <= CAUSES_MOST
+            }
             Call::PqForge { field, .. } => *field <= 4,
             Call::RqForge { field, .. } => *field <= 9,
             Call::MForge { field, .. } => *field <= 3,
@@ -289,7 +296,7 @@ mod tests {
 
     #[test]
     fn malformed_streams_are_none() {
-        for bytes in [&[0u8][..], &[15], &[65], &[255], &[1, 0, 0], &[5, 0, 1, 0, 65], &[30, 5, 0, 0, 0, 0, 0, 0, 0, 0, 0, 0]] {
+        for bytes in [&[0u8][..], &[15], &[67], &[255], &[1, 0, 0], &[5, 0, 1, 0, 65], &[30, 5, 0, 0, 0, 0, 0, 0, 0, 0, 0, 0]] {
             assert_eq!(Call::decode(&mut &bytes[..]), None, "{bytes:?}");
         }
     }

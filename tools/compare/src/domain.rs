@@ -1,4 +1,5 @@
 //! Document 01's domain for equality: the calls on which the Rust and the rules must answer the same; document 02's calls likewise.
+pub mod causes;
 pub mod packets;
 
 use crate::model::Model;
@@ -37,6 +38,7 @@ pub fn inside(model: &Model, call: &Call) -> bool {
         Call::PqApplyForward { cumulative, point } => !opposite(*cumulative, *point),
         Call::RqApplyForward { part, cumulative, point } => applied(&model.reassembly, part, *cumulative, *point),
         Call::Crc32c { .. } | Call::Packet { .. } | Call::PacketChunk { .. } | Call::PacketBytes { .. } | Call::PacketWalk { .. } | Call::PacketMarshal { .. } => packets::inside(call),
+        Call::ErrorUnmarshal { .. } | Call::AbortUnmarshal { .. } => causes::inside(call),
         Call::PqPush { fields, cumulative, .. } => !opposite(fields.tsn, *cumulative) && pushable(model, fields, *cumulative),
         Call::PqGapAckBlocks { cumulative, starts, ends, .. } => model.tsns.blocks(*cumulative).len() <= (*starts).min(*ends) as usize,
         Call::RqPush { fields, data } => kept(fields.identifier) && push(&model.reassembly, fields, *data),

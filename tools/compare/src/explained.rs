@@ -1,4 +1,5 @@
 //! Differences between the rules and the Rust that docs/DIFFERENCES.md explains, where one call shows them.
+use crate::domain::causes;
 use crate::domain::packets::parted;
 use crate::domain::{folded, opposite, padding, without_data};
 use crate::model::forward::PAIRS;
@@ -16,6 +17,9 @@ pub const ALL: &[(u8, &str)] = &[
     (20, "a last chunk without its padding"),
     (22, "a chunk of another kind"),
     (24, "a TSN opposite to the cumulative one"),
+    (25, "causes that are not rounded"),
+    (26, "enclosed chunks that are not followed"),
+    (27, "bytes where a cause should start"),
 ];
 
 /// The number of the difference that explains why the Rust answers otherwise, if one does.
@@ -44,6 +48,10 @@ pub fn by(call: &Call, ours: &[u8], oracle: &[u8]) -> Option<u8> {
         Call::PacketWalk { .. } if parted(call) == Some(20) => (20, ours.ends_with(b" none") && oracle == b"error ErrParseSctpChunkNotEnoughData"),
         Call::PacketWalk { .. } if parted(call) == Some(22) => (22, ours.starts_with(b"walk ") && oracle == b"error ErrUnmarshalUnknownChunkType"),
         Call::PqPush { fields, cumulative, .. } => (24, opposite(fields.tsn, *cumulative) && ours == b"refused 17" && [&b"yes"[..], b"no"].contains(&oracle)),
+        Call::ErrorUnmarshal { raw, .. } | Call::AbortUnmarshal { raw, .. } => match causes::parted(call) {
+            Some(number) => (number, causes::begins(call, oracle)),
+            None => (9, padding(raw).iter().any(|b| *b != 0) && oracle.starts_with(b"error ErrChunkHeaderPaddingNonZero ")),
+        },
         Call::MNext { most } => (15, *most > i64::MAX as u64 && oracle.starts_with(b"panic ")),
         _ => return None,
     };

@@ -115,6 +115,26 @@ fn packets() -> Vec<Call> {
     bodies.iter().flat_map(of).collect()
 }
 
+/// 25 to 27: causes that the Rust does not round, follow or miss.
+fn causes() -> Vec<Call> {
+    let chunks: [&[u8]; 7] = [
+        &[9, 0, 0, 16, 0, 12, 0, 5, 97, 0, 0, 0, 0, 1, 0, 4],
+        &[9, 0, 0, 16, 0, 6, 0, 12, 6, 0, 0, 8, 0, 12, 0, 4],
+        &[9, 0, 0, 5, 0],
+        &[9, 0, 0, 13, 0, 12, 0, 9, 97, 98, 99, 100, 101],
+        &[9, 0, 0, 12, 0, 6, 0, 8, 0, 0, 0, 3],
+        &[9, 0, 0, 8, 0, 6, 0, 4],
+        &[9, 0, 0, 8, 0, 1, 0, 3],
+    ];
+    let of = |raw: &&[u8]| {
+        let abort = [&[6], &raw[1..]].concat();
+        let lent = |room| (room, room, room, room, 7);
+        let ((codes, depths, starts, sizes, fill), raw) = (lent(3), raw.to_vec());
+        [Call::ErrorUnmarshal { raw, codes, depths, starts, sizes, fill }, Call::AbortUnmarshal { raw: abort, codes, depths, starts, sizes, fill }]
+    };
+    chunks.iter().flat_map(of).collect()
+}
+
 pub fn calls() -> Vec<Call> {
-    [duplicates(), identifiers(), without_data(), half_way(), bytes_and_pieces(), all_the_way_round(), packets(), opposite()].concat()
+    [duplicates(), identifiers(), without_data(), half_way(), bytes_and_pieces(), all_the_way_round(), packets(), opposite(), causes()].concat()
 }

@@ -49,6 +49,9 @@ fn operands(call: &mut Call) -> Vec<Operand<'_>> {
         Call::RqApplyForward { part, cumulative, point } => vec![Bytes(part), U32(cumulative), U32(point)],
         Call::PacketChunk { raw, place } | Call::PacketBytes { raw, place } => vec![Bytes(raw), U64(place)],
         Call::PacketMarshal { room, fill, source, destination, tag, chunks } => vec![Bytes(chunks), U16(source), U16(destination), U32(tag), U32(room), U8(fill)],
+        Call::ErrorUnmarshal { raw, codes, depths, starts, sizes, fill } | Call::AbortUnmarshal { raw, codes, depths, starts, sizes, fill } => {
+            vec![Bytes(raw), U16(codes), U16(depths), U16(starts), U16(sizes), U16(fill)]
+        }
         Call::FwdMarshal { room, fill, point, .. } => vec![U32(room), U8(fill), U32(point)],
         Call::DataMarshal { room, fill, fields, data } => of_fields(fields).chain(of_data(data)).chain([U32(room), U8(fill)]).collect(),
         Call::SackMarshal { room, fill, cumulative, window, .. } => vec![U32(room), U8(fill), U32(cumulative), U32(window)],

@@ -3,6 +3,7 @@ extern crate alloc;
 
 include!(concat!(env!("OUT_DIR"), "/sctp.rs"));
 
+mod causes;
 mod codec;
 mod forward_tsn;
 mod packets;
@@ -42,7 +43,8 @@ impl Oracle {
             53..57 => forward_tsn::answer(call, line),
             57 => self.tsn_queue.answer(call, line),
             58 => self.reassembly.answer(call, line),
-            59..67 => packets::answer(call, line),
+            59..65 => packets::answer(call, line),
+            65..67 => causes::answer(call, line),
             67.. => codec::answer(call, line),
         }
     }

@@ -21,12 +21,16 @@ pub fn result<T>(result: Result<T>, line: &mut Vec<u8>, show: impl FnOnce(T, &mu
     }
 }
 
-/// Document 01's number for an error, 12 to 14 document 02's, or the name of one that has none.
+/// Document 01's number for an error, 12 to 14 and 16 document 02's, or the name of one that has none.
 pub fn refused(error: &Error, line: &mut Vec<u8>) {
     let number = match error {
         Error::ErrChunkHeaderTooSmall => 1,
         Error::ErrChunkHeaderInvalidLength | Error::ErrChunkHeaderNotEnoughSpace => 2,
-        Error::ErrChunkTypeNotPayloadData | Error::ErrChunkTypeNotSack | Error::ErrChunkTypeNotForwardTsn => 3,
+        Error::ErrChunkTypeNotPayloadData
+        | Error::ErrChunkTypeNotSack
+        | Error::ErrChunkTypeNotForwardTsn
+        | Error::ErrChunkTypeNotCt
+        | Error::ErrChunkTypeNotAbort => 3,
         Error::ErrChunkPayloadSmall => 4,
         Error::ErrSackSizeNotLargeEnoughInfo => 5,
         Error::ErrInboundPacketTooLarge => 6,
@@ -34,6 +38,7 @@ pub fn refused(error: &Error, line: &mut Vec<u8>) {
         Error::ErrChunkTooShort => 12,
         Error::ErrPacketRawTooSmall => 13,
         Error::ErrChecksumMismatch => 14,
+        Error::ErrErrorCauseTooSmall => 16,
         other => return words!(line, "error", format!("{other:?}").split([' ', '(']).next().unwrap_or_default()),
     };
     line::refused(number, line);

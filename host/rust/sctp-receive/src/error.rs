@@ -8,11 +8,12 @@ use core::fmt;
 pub enum Error {
     /// 0: a queue or message whose numbers contradict its table, pool or buffer. The queues of this crate own theirs, and are proved to stay sound.
     Unsound = 0,
-    /// 1: fewer than 4 bytes lent, or left at a place of a packet.
+    /// 1: fewer than 4 bytes lent, left at a place of a packet, or in a cause that holds a chunk.
     NoHeader = 1,
     /// 2: chunk length below 4 or above these bytes.
     BadLength = 2,
-    /// 3: not the type asked for (sctp-proto: `ErrChunkTypeNotPayloadData`, `ErrChunkTypeNotSack`, `ErrChunkTypeNotForwardTsn`).
+    /// 3: not the type asked for (sctp-proto: `ErrChunkTypeNotPayloadData`, `ErrChunkTypeNotSack`, `ErrChunkTypeNotForwardTsn`, `ErrChunkTypeNotCt`,
+    /// `ErrChunkTypeNotAbort`).
     ChunkTypeNotAskedFor = 3,
     /// 4: DATA length below 16 (`ErrChunkPayloadSmall`).
     ChunkPayloadSmall = 4,
@@ -26,7 +27,7 @@ pub enum Error {
     Full = 8,
     /// 9: DATA above 65,519 bytes, SACK above 16,379 entries, FORWARD TSN above 16,381 pairs, or lists of unequal length that belong together.
     TooLong = 9,
-    /// 10: write or take buffer, or a gap report list, too short.
+    /// 10: write or take buffer, or a list of a gap report or of causes, too short.
     NoRoom = 10,
     /// 11: list index at or past its count; place below 12 or past the packet.
     PastTheList = 11,
@@ -38,6 +39,8 @@ pub enum Error {
     ChecksumMismatch = 14,
     /// 15: DATA without data, read or written (RFC 4960 section 3.3.1 wants a byte at least).
     NoUserData = 15,
+    /// 16: one to three bytes where a cause should start, or a cause length below 4 or past its chunk (`ErrErrorCauseTooSmall`).
+    ErrorCauseTooSmall = 16,
     /// 17: a TSN exactly 2^31 from the cumulative one, the sign of a corrupt peer.
     OppositeTsn = 17,
 }
@@ -61,6 +64,7 @@ impl Error {
         Error::PacketRawTooSmall,
         Error::ChecksumMismatch,
         Error::NoUserData,
+        Error::ErrorCauseTooSmall,
         Error::OppositeTsn,
     ];
 
@@ -95,6 +99,7 @@ impl fmt::Display for Error {
             Error::PacketRawTooSmall => "a packet shorter than 12 bytes",
             Error::ChecksumMismatch => "the packet's checksum is wrong",
             Error::NoUserData => "DATA without data",
+            Error::ErrorCauseTooSmall => "a cause shorter than 4 bytes, or longer than its chunk",
             Error::OppositeTsn => "the TSN is half way round from the cumulative one",
         })
     }

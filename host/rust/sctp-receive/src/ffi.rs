@@ -5,6 +5,7 @@
 //! reference gives: it is aligned and not null, what is behind it is there, and nothing else reaches what a `&mut` lends.
 use crate::chunk::ChunkPayloadData;
 
+pub(crate) mod causes;
 pub(crate) mod forward_tsn;
 pub(crate) mod hand;
 pub(crate) mod packet;
@@ -95,6 +96,10 @@ unsafe extern "C" {
         sequence: &mut u16) -> i32;
     fn sctp_receive_forward_tsn_marshal_to(out: *mut u8, out_len: usize, new_cumulative_tsn: u32, identifiers: *const u16,
         identifiers_len: usize, sequences: *const u16, sequences_len: usize, n: &mut usize) -> i32;
+    fn sctp_receive_error_unmarshal(raw: *const u8, raw_len: usize, codes: *mut u16, codes_len: usize, depths: *mut u16,
+        depths_len: usize, starts: *mut u16, starts_len: usize, sizes: *mut u16, sizes_len: usize, n: &mut usize) -> i32;
+    fn sctp_receive_abort_unmarshal(raw: *const u8, raw_len: usize, codes: *mut u16, codes_len: usize, depths: *mut u16,
+        depths_len: usize, starts: *mut u16, starts_len: usize, sizes: *mut u16, sizes_len: usize, n: &mut usize) -> i32;
     fn sctp_receive_crc32c(bytes: *const u8, bytes_len: usize) -> u32;
     fn sctp_receive_packet_unmarshal(raw: *const u8, raw_len: usize, source_port: &mut u16, destination_port: &mut u16,
         verification_tag: &mut u32) -> i32;

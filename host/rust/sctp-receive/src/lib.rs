@@ -1,4 +1,4 @@
-//! The receive part of SCTP for Rust programs, over the proved library `libsctp_receive.a`: packets with their checksum, DATA, SACK and FORWARD TSN chunks, the
+//! The receive part of SCTP for Rust programs, over the proved library `libsctp_receive.a`: packets with their checksum, DATA, SACK and FORWARD TSN chunks, the causes of ERROR and ABORT, the
 //! TSN queue with its gap report, reassembly of one stream, and the message in hand. Names are those of sctp-proto. Each call is proved, in Rattle, to answer
 //! and to leave exactly what documents 01 and 02 say; this crate owns the tables, lends them to the library, and adds no rule of its own.
 //!
@@ -38,6 +38,7 @@
 #[cfg(test)]
 extern crate std;
 
+mod causes;
 mod chunk;
 mod error;
 #[allow(unsafe_code)]
@@ -49,6 +50,7 @@ pub mod serial;
 #[cfg(test)]
 mod unsound;
 
+pub use causes::{CauseLists, ChunkAbort, ChunkError};
 pub use chunk::{
     ChunkForwardTsn, ChunkForwardTsnStream, ChunkHeader, ChunkPayloadData, ChunkSelectiveAck, DuplicateTsns, ForwardTsnStreams,
     GapAckBlock, GapAckBlocks, PayloadProtocolIdentifier,

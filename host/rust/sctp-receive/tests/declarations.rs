@@ -246,6 +246,7 @@ fn sizes_and_numbers() {
         "SHORT_PACKET",
         "BAD_CHECKSUM",
         "NO_DATA",
+        "BAD_CAUSE",
     ];
     for (number, name) in (-1..).zip(refusals) {
         assert_eq!(macros[&format!("SCTP_RECEIVE_{name}")], number, "{name}");

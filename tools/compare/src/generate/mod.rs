@@ -1,4 +1,5 @@
 //! Random calls from a seed. A model stands beside the generator, so that it knows the state and, in mode `in`, keeps inside document 01's domain.
+mod causes;
 mod codec;
 mod forge;
 mod forward;
@@ -89,7 +90,8 @@ impl Maker {
             0..18 => codec::run(self),
             18..22 => codec::serials(self),
             22..30 => packets::run(self),
-            30..52 => tsns::run(self),
+            30..35 => causes::run(self),
+            35..54 => tsns::run(self),
             _ => reassembly::run(self),
         }
     }
@@ -130,8 +132,8 @@ impl Maker {
         let mut tail = Vec::new();
         match self.rng.below(6) {
             0 => return,
-            1 => tail.push(self.rng.pick(&[0, 15, 42, 47, 65, 255])),
-            2 => tail.extend([self.rng.pick(&[5, 53, 58, 59, 63]), 0, 1, 0, 65]),
+            1 => tail.push(self.rng.pick(&[0, 15, 42, 47, 67, 255])),
+            2 => tail.extend([self.rng.pick(&[5, 53, 58, 59, 63, 65, 66]), 0, 1, 0, 65]),
             3 => tail.extend([self.rng.pick(&[30, 40, 52]), 10, 0, 0, 0, 0, 0, 0, 0, 0, 0, 0]),
             4 => tail.extend([self.rng.pick(&[35, 56, 64]), 0, 1, 0, 65, 7]),
             _ => {

@@ -74,6 +74,16 @@ faults! {
     CanPushNotOpposite "can_push says no to a TSN opposite to the cumulative one"
     OppositePopped "pop_up_to drops an opposite TSN"
     SkipStopsAtOpposite "an unordered skip stops at an opposite TSN, as the Rust's"
+    CausesNotRounded "the next cause is not at the length rounded up to 4, as by the Rust"
+    CauseBytesLeftEnd "one to three bytes where a cause should start end the list, as by the Rust"
+    InnerNotFollowed "enclosed chunks are not followed, as by the Rust"
+    AbortNotFollowed "an enclosed ABORT is not followed"
+    DepthNotCounted "the causes of an enclosed chunk have the depth of the cause that holds it"
+    StartOfCause "where a cause starts is told, not where its value does"
+    InnerLast "the causes of an enclosed chunk come after those of the outer one"
+    PastTheChunk "cause bytes past an enclosed chunk are read as causes"
+    EmptyValueHolds "an empty value of code 6 is refused as a chunk of no bytes"
+    RoomBeforeCauses "the room of the lists is tested before the causes"
 }
 
 /// Which mistake is made, if any.

@@ -1,5 +1,6 @@
 //! Document 01's rules and document 02's as a plain program: what each call of docs/CALLS.md answers, and what it leaves. Written from the documents, to be held
 //! against the proved program and against the Rust.
+pub mod causes;
 pub mod codec;
 pub mod fault;
 pub mod forward;
@@ -49,7 +50,8 @@ impl Answers for Model {
             16..=31 => self.answer_tsns(call, line),
             32..=41 => self.answer_reassembly(call, line),
             53..=58 => self.answer_forward(call, line),
-            59.. => self.answer_packets(call, line),
+            59..=64 => self.answer_packets(call, line),
+            65.. => self.answer_causes(call, line),
             _ => match self.hand.take() {
                 Some(mut hand) => {
                     answer_hand(&mut hand, call, line);
@@ -168,6 +170,20 @@ impl Model {
             Call::PqApplyForward { cumulative, point } => done(forward::apply_to_tsns(&mut self.tsns, *cumulative, *point), line),
             Call::RqApplyForward { part, cumulative, point } => done(forward::apply_to_stream(&mut self.reassembly, part, *cumulative, *point), line),
             _ => unreachable!("{call:?} is no call of FORWARD TSN"),
+        }
+    }
+
+    fn answer_causes(&mut self, call: &Call, line: &mut Vec<u8>) {
+        let (kind, raw, rooms, fill) = match call {
+            Call::ErrorUnmarshal { raw, codes, depths, starts, sizes, fill } => (causes::ERROR, raw, [codes, depths, starts, sizes], *fill),
+            Call::AbortUnmarshal { raw, codes, depths, starts, sizes, fill } => (causes::ABORT, raw, [codes, depths, starts, sizes], *fill),
+            other => unreachable!("{other:?}"),
+        };
+        let mut lists = rooms.map(|room| vec![fill; *room as usize]);
+        told(causes::unmarshal(kind, raw, &mut lists, self.serial.wrong), line, |n, line| words!(line, "causes", n));
+        for (name, list) in ["codes", "depths", "starts", "sizes"].into_iter().zip(lists) {
+            words!(line, format!(" {name}"));
+            line::list(list, line);
         }
     }
 
