@@ -53,9 +53,9 @@ partedAt short bytes rest = cut ∷ []
 partedAt (chunk n) bytes rest = whole (take n (drop 2 bytes)) ∷ rest (drop (2 + n) bytes)
 
 -- "After 2^33 records it ends as at the file's end": at most so many
-abbrev pub parts : ℕ → List ℕ → List Part
-parts zero bytes = []
-parts (suc most) bytes = partedAt (start bytes) bytes (parts most)
+abbrev pub recordsOf : ℕ → List ℕ → List Part
+recordsOf zero bytes = []
+recordsOf (suc most) bytes = partedAt (start bytes) bytes (recordsOf most)
 
 abbrev pub recordsMost : ℕ
 recordsMost = 8589934592

@@ -22,7 +22,7 @@ decimal n = spelled 20 n
 
 -- "its number from 0, a space, then .."
 unfoldable pub line : ℕ → List ℕ → List ℕ
-line number said = decimal number ++ (32 ∷ (said ++ (10 ∷ [])))
+line number text = decimal number ++ (32 ∷ (text ++ (10 ∷ [])))
 
 -- "T or F for the push answer or the refusal number"
 abbrev pub saidAs : Refusal → Bool → List ℕ
@@ -30,8 +30,8 @@ saidAs none true = 84 ∷ []
 saidAs none false = 70 ∷ []
 saidAs (refuse k) stored = decimal k
 
-abbrev pub said : Told Bool → List ℕ
-said t = saidAs (t .refusal) (t .values)
+abbrev pub saidAnswer : Told Bool → List ℕ
+saidAnswer t = saidAs (t .refusal) (t .values)
 
 -- "a record cut short .. writes its number, ` cut`"
 abbrev pub saidCut : List ℕ

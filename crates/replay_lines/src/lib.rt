@@ -5,7 +5,7 @@ ghost use Prim.Native.Nat.{_+_, _≤_};
 ghost use lib.ListN.{length};
 ghost use Rattle.payload_model.specs.Answers.{flagTold};
 ghost use Rattle.replay_lines.specs.Behind.{Behind, Put};
-ghost use Rattle.replay_lines.specs.Lines.{decimal, line, said, saidCut, word, totalLine, badVersion};
+ghost use Rattle.replay_lines.specs.Lines.{decimal, line, saidAnswer, saidCut, word, totalLine, badVersion};
 use counters::Counters;
 use payload_model::Flag;
 
@@ -55,7 +55,7 @@ fn words_at(out: &mut [u8], at: usize, n: u32, m: u32) -> usize
 // What is said of a record's answer: T, F or the refusal's number.
 fn said_at(out: &mut [u8], at: usize, answer: Flag) -> usize
     requires { ⌜ at + 20 ≤ length (now out) ⌝ }
-    ensures { λ r. ⌜ Behind (now (out .entry)) at (said (flagTold answer)) (now (out .exit)) r ⌝ }
+    ensures { λ r. ⌜ Behind (now (out .entry)) at (saidAnswer (flagTold answer)) (now (out .exit)) r ⌝ }
     ensures { λ r. ⌜ r ≤ at + 20 ⌝ }
 {
     match answer {
@@ -72,7 +72,7 @@ fn said_at(out: &mut [u8], at: usize, answer: Flag) -> usize
 // The line of a record with this number and answer; how long it is.
 pub fn put_record(out: &mut [u8], number: u64, answer: Flag) -> usize
     requires { ⌜ 96 ≤ length (now out) ⌝ }
-    ensures { λ r. ⌜ Put (now (out .entry)) (line number (said (flagTold answer))) (now (out .exit)) r ⌝ }
+    ensures { λ r. ⌜ Put (now (out .entry)) (line number (saidAnswer (flagTold answer))) (now (out .exit)) r ⌝ }
 {
     let space = decimal_at(out, 0, number);
     let what = put_at(out, space, b" ");

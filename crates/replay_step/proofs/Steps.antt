@@ -15,13 +15,13 @@ use Rattle.counters.specs.declared.Kind.the-variants as kinds
 use Rattle.payload_model.specs.Queue.{Queue, after}
 use Rattle.replay_file.specs.File.{none, short, chunk, start}
 use Rattle.replay_push.specs.Decoded.{recorded}
-use Rattle.replay_lines.specs.Lines.{line, said, saidCut}
+use Rattle.replay_lines.specs.Lines.{line, saidAnswer, saidCut}
 use Rattle.replay_lines.specs.Behind.{Put}
 use Rattle.replay_step.specs.Step.{State, kindOf, cutShort, chunkStep, stepped, Left, left}
 
 -- a chunk's answer, written and counted
 pub chunk-left : (taken : ℕ) (s : State) (raw out : List ℕ) (told : Told Bool) (q : Queue) {out′ : List ℕ} {written number : ℕ} {kind : Kind} {counters : Counters}
-    → after told q ≡ recorded (s .queue) raw → Put out (line (s .number) (said told)) out′ written → kind ≡ kindOf told → counters ≡ countedAs kind (s .counters) → number ≡ (s .number + 1) % 2 ^ 64
+    → after told q ≡ recorded (s .queue) raw → Put out (line (s .number) (saidAnswer told)) out′ written → kind ≡ kindOf told → counters ≡ countedAs kind (s .counters) → number ≡ (s .number + 1) % 2 ^ 64
     → _≡_ {A = Left} (record { more = true; taken = taken; written = written; line = out′; state = record { number = number; queue = q; counters = counters } }) (left (chunkStep taken s raw) out)
 unfolding chunkStep
 chunk-left taken s raw out told q e put k c n = rw (n, c, k, put .is, put .size, ← e)

@@ -17,7 +17,7 @@ use Rattle.payload_queue.specs.Queue.{queueOf}
 use Rattle.replay_file.specs.File as file
 use Rattle.replay_file.specs.File.{Start, start}
 use Rattle.replay_push.specs.Decoded.{recorded}
-use Rattle.replay_lines.specs.Lines.{line, said, saidCut}
+use Rattle.replay_lines.specs.Lines.{line, saidAnswer, saidCut}
 use Rattle.replay_step.specs.declared.Replay.{Replay}
 use Rattle.replay_step.specs.declared.Turn.{Turn}
 
@@ -73,7 +73,7 @@ answered taken s a =
     record {
       more = true;
       taken = taken;
-      text = line (s .number) (said (a .told));
+      text = line (s .number) (saidAnswer (a .told));
       state = record { number = (s .number + 1) % 2 ^ 64; queue = a .queue; counters = countedAs (kindOf (a .told)) (s .counters) };
     }
 

@@ -15,7 +15,7 @@ use Rattle.counters.specs.declared.Kind.the-variants as kinds
 use Rattle.counters.proofs.Runs.{run-counted}
 use Rattle.payload_model.specs.Run.{starts}
 use Rattle.replay_file.specs.File as file
-use Rattle.replay_file.specs.File.{Start, start, partedAt, parts, recordsMost, number, versioned}
+use Rattle.replay_file.specs.File.{Start, start, partedAt, recordsOf, recordsMost, number, versioned}
 use Rattle.replay_file.proofs.Starts.{starts-shown}
 use Rattle.replay_push.specs.Decoded.{recorded}
 use Rattle.replay_lines.specs.Lines.{line, saidCut, totalLine, badVersion}
@@ -29,20 +29,20 @@ rest number c os = lines number os ++ totalLine (countedAll c (map countedOf os)
 
 -- a step by what stands at the front, and what is left by the steps behind it
 onward-rest : (f : Start) (m : ℕ) (s : State) (bytes : List ℕ) → s .number + 1 < 2 ^ 64
-    → ((t : State) (more : List ℕ) → t .number ≡ s .number + 1 → run m t more ≡ rest (t .number) (t .counters) (outcomes (t .queue) (parts m more)))
-    → onward (stepAt f s bytes) bytes (run m) ≡ rest (s .number) (s .counters) (outcomes (s .queue) (partedAt f bytes (parts m)))
+    → ((t : State) (more : List ℕ) → t .number ≡ s .number + 1 → run m t more ≡ rest (t .number) (t .counters) (outcomes (t .queue) (recordsOf m more)))
+    → onward (stepAt f s bytes) bytes (run m) ≡ rest (s .number) (s .counters) (outcomes (s .queue) (partedAt f bytes (recordsOf m)))
 unfolding chunkStep
 onward-rest file.none m s bytes h more = refl
 onward-rest file.short m s bytes h more = ap (λ (l : List ℕ). l ++ totalLine (countedAs kinds.Cut (s .counters))) (sym (append-nil (line (s .number) saidCut)))
 onward-rest (file.chunk n) m s bytes h more =
     let t = chunkStep (2 + n) s (take n (drop 2 bytes)) in
     let left = drop (2 + n) bytes in
-    let os = outcomes (t .state .queue) (parts m left) in
+    let os = outcomes (t .state .queue) (recordsOf m left) in
     let next : (s .number + 1) % 2 ^ 64 ≡ s .number + 1 = mod-eq-of-lt h in
     ap (λ (l : List ℕ). t .text ++ l) (more (t .state) left next ∙ ap (λ (k : ℕ). rest k (t .state .counters) os) next)
     ∙ sym (append-assoc (t .text) (lines (s .number + 1) os) (totalLine (countedAll (t .state .counters) (map countedOf os))))
 
-run-rest : (m : ℕ) (s : State) (bytes : List ℕ) → s .number + m < 2 ^ 64 → run m s bytes ≡ rest (s .number) (s .counters) (outcomes (s .queue) (parts m bytes))
+run-rest : (m : ℕ) (s : State) (bytes : List ℕ) → s .number + m < 2 ^ 64 → run m s bytes ≡ rest (s .number) (s .counters) (outcomes (s .queue) (recordsOf m bytes))
 unfolding stepped
 run-rest zero s bytes h = refl
 run-rest (suc m) s bytes h = onward-rest (start bytes) m s bytes (omega arith) (λ t more e. run-rest m t more (omega arith))
@@ -53,7 +53,7 @@ run-rest (suc m) s bytes h = onward-rest (start bytes) m s bytes (omega arith) (
 pub replay-writes : (most : ℕ) (words file : List ℕ) → most < 2 ^ 64 → programs most words file ≡ output most words file
 unfolding programs output
 replay-writes most words file h =
-    let os = outcomes (starts words) (parts most (drop 1 file)) in
+    let os = outcomes (starts words) (recordsOf most (drop 1 file)) in
     ap (λ (l : List ℕ). cond (versioned file) l badVersion)
     (run-rest most (stateOf fresh words) (drop 1 file) (omega arith) ∙ ap (λ (c : Counters). lines 0 os ++ totalLine c) (run-counted (map countedOf os)))
 

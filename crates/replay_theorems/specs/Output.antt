@@ -10,9 +10,9 @@ use Rattle.counters.specs.declared.Kind.{Kind}
 use Rattle.counters.specs.declared.Kind.the-variants as kinds
 use Rattle.payload_model.specs.Queue.{Queue}
 use Rattle.payload_model.specs.Run.{starts}
-use Rattle.replay_file.specs.File.{versioned, Part, whole, cut, parts}
+use Rattle.replay_file.specs.File.{versioned, Part, whole, cut, recordsOf}
 use Rattle.replay_push.specs.Decoded.{recorded}
-use Rattle.replay_lines.specs.Lines.{line, said, saidCut, totalLine, badVersion}
+use Rattle.replay_lines.specs.Lines.{line, saidAnswer, saidCut, totalLine, badVersion}
 use Rattle.replay_step.specs.Step.{kindOf}
 
 -- what became of a record: its answer, or that it is cut short
@@ -21,7 +21,7 @@ pub data Outcome : Type 0 where
   short : Outcome
 
 abbrev pub saidOf : Outcome → List ℕ
-saidOf (answered t) = said t
+saidOf (answered t) = saidAnswer t
 saidOf short = saidCut
 
 abbrev pub countedOf : Outcome → Kind
@@ -45,4 +45,4 @@ written os = lines 0 os ++ totalLine (totals (map countedOf os))
 
 -- at most so many records of a file, pushed "to a fresh TSN queue", whatever its table holds; "except after `bad version`"
 unfoldable pub output : ℕ → List ℕ → List ℕ → List ℕ
-output most words file = cond (versioned file) (written (outcomes (starts words) (parts most (drop 1 file)))) badVersion
+output most words file = cond (versioned file) (written (outcomes (starts words) (recordsOf most (drop 1 file)))) badVersion

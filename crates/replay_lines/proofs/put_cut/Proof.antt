@@ -1,6 +1,7 @@
 -- `replay_lines::put_cut` meets its contract: the word goes behind the number.
 -- Assumes nothing.
 use borrow.Author.Needs.{needs}
+use native.Mathlib.Omega.{arith}
 use Rattle.replay_lines.specs.Lines.{line}
 use Rattle.replay_lines.proofs.Put.{then, all-put}
 use Rattle.replay_lines.proofs.put_cut.Statement.{statement}
@@ -14,4 +15,4 @@ returns c =
     all-put (then (d .decimal-at .ensures .0) (p .put-at .ensures))
 
 pub put-cut-spec : {M : Type 1} → statement M
-put-cut-spec = tie.close (tie.spec (λ c κs. search needs) (λ c. search needs) (λ c κs. search needs) (λ c. search needs) returns)
+put-cut-spec = tie.close (tie.spec (λ c κs. omega arith) (λ c. search needs) (λ c κs. omega arith) (λ c. search needs) returns)

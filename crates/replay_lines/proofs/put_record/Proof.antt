@@ -1,6 +1,7 @@
 -- `replay_lines::put_record` meets its contract: each part goes behind the one before it.
 -- Assumes nothing.
 use borrow.Author.Needs.{needs}
+use native.Mathlib.Omega.{arith}
 use Rattle.replay_lines.specs.Lines.{line}
 use Rattle.replay_lines.proofs.Put.{then, all-put}
 use Rattle.replay_lines.proofs.put_record.Statement.{statement}
@@ -16,4 +17,4 @@ returns c =
     all-put (then (d .decimal-at .ensures .0) (then (p .put-at .ensures) (then (s .said-at .ensures .0) (n .put-at2 .ensures))))
 
 pub put-record-spec : {M : Type 1} → statement M
-put-record-spec = tie.close (tie.spec (λ c κs. search needs) (λ c. search needs) (λ c κs. search needs) (λ c κs. search needs) (λ c. search needs) (λ c κs. search needs) (λ c. search needs) returns)
+put-record-spec = tie.close (tie.spec (λ c κs. omega arith) (λ c. search needs) (λ c κs. omega arith) (λ c κs. omega arith) (λ c. search needs) (λ c κs. omega arith) (λ c. search needs) returns)

@@ -1,6 +1,7 @@
 -- `replay_lines::put_total` meets its contract: each pair of numbers goes behind what is there.
 -- Assumes nothing.
 use borrow.Author.Needs.{needs}
+use native.Mathlib.Omega.{arith}
 use Rattle.replay_lines.proofs.Put.{then, all-put, total-pairs}
 use Rattle.replay_lines.proofs.put_total.Statement.{statement}
 use Rattle.replay_lines.proofs.put_total.Tie as tie
@@ -15,4 +16,4 @@ returns c =
     rw (← (total-pairs counters)) (all-put (then (p .put-at .ensures) (then (w .words-at .ensures .0) (then (v .words-at2 .ensures .0) (n .put-at2 .ensures)))))
 
 pub put-total-spec : {M : Type 1} → statement M
-put-total-spec = tie.close (tie.spec (λ c. search needs) (λ c κs. search needs) (λ c κs. search needs) (λ c κs. search needs) (λ c. search needs) (λ c κs. search needs) (λ c. search needs) returns)
+put-total-spec = tie.close (tie.spec (λ c. search needs) (λ c κs. omega arith) (λ c κs. omega arith) (λ c κs. omega arith) (λ c. search needs) (λ c κs. omega arith) (λ c. search needs) returns)

@@ -24,4 +24,4 @@ refused c =
     rw (m .answer2 .given .1) (d .decimal-at .ensures)
 
 pub said-at-spec : {M : Type 1} → statement M
-said-at-spec = tie.close (tie.spec (λ c. search needs) (λ c. search needs) (λ c κs. search needs) (λ c. search needs) stored (λ c. search needs) (λ c κs. search needs) (λ c. search needs) (λ c. search needs) (λ c κs. search needs) (λ c. search needs) turned-away (λ c. search needs) refused)
+said-at-spec = tie.close (tie.spec (λ c. search needs) (λ c. search needs) (λ c κs. omega arith) (λ c. search needs) stored (λ c. search needs) (λ c κs. omega arith) (λ c. search needs) (λ c. search needs) (λ c κs. omega arith) (λ c. search needs) turned-away (λ c. search needs) refused)

@@ -13,4 +13,4 @@ returns c =
     (then (p .put-at .ensures) (d .decimal-at .ensures .0), omega (arith, p .put-at .ensures .end, d .decimal-at .ensures .1))
 
 pub word-at-spec : {M : Type 1} → statement M
-word-at-spec = tie.close (tie.spec (λ c. search needs) (λ c κs. search needs) (λ c κs. search needs) (λ c. search needs) returns)
+word-at-spec = tie.close (tie.spec (λ c. search needs) (λ c κs. omega arith) (λ c κs. omega arith) (λ c. search needs) returns)

@@ -13,4 +13,4 @@ returns c =
     (then (p .word-at .ensures .0) (d .word-at2 .ensures .0), omega (arith, p .word-at .ensures .1, d .word-at2 .ensures .1))
 
 pub words-at-spec : {M : Type 1} → statement M
-words-at-spec = tie.close (tie.spec (λ c κs. search needs) (λ c κs. search needs) (λ c. search needs) returns)
+words-at-spec = tie.close (tie.spec (λ c κs. omega arith) (λ c κs. omega arith) (λ c. search needs) returns)
