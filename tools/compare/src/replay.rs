@@ -37,7 +37,7 @@ fn kind(line: &str) -> &str {
 }
 
 /// Kinds of lines that must occur.
-const KINDS: [&str; 11] = ["T", "F", "1", "2", "3", "4", "8", "15", "cut", "total", "bad version"];
+const KINDS: [&str; 12] = ["T", "F", "1", "2", "3", "4", "8", "15", "17", "cut", "total", "bad version"];
 
 /// Holds the programs to the model on so many files, or for so many seconds; whether all is well.
 pub fn run(seed: u64, program: &str, three: &str, most: u64, seconds: Option<u64>) -> Result<bool, String> {

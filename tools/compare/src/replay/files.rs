@@ -21,7 +21,7 @@ pub fn put(file: &mut Vec<u8>, chunk: &[u8]) {
 fn tsn(rng: &mut Rng) -> u32 {
     match rng.below(8) {
         0 => (rng.within(0, 6) as u32).wrapping_sub(3),
-        1 => 0x8000_0000u32.wrapping_add(rng.pick(&[1, 2, u32::MAX, u32::MAX - 1])),
+        1 => 0x8000_0000u32.wrapping_add(rng.pick(&[0, 1, 2, u32::MAX, u32::MAX - 1])),
         2 => rng.number() as u32 | 1,
         _ => rng.within(1, 40) as u32,
     }
@@ -88,7 +88,7 @@ pub fn file(seed: u64, n: u64) -> Vec<u8> {
 pub fn recorded() -> Vec<u8> {
     let mut file = vec![1];
     put(&mut file, &[0x0A, 0, 0, 4]);
-    for chunk in [data(1, 3, 3), data(1, 3, 3), data(0, 3, 1), data(u32::MAX, 3, 1), data(3, 7, 65_519), data(2, 0, 40), data(5, 3, 0)] {
+    for chunk in [data(1, 3, 3), data(1, 3, 3), data(0, 3, 1), data(u32::MAX, 3, 1), data(0x8000_0000, 3, 1), data(3, 7, 65_519), data(2, 0, 40), data(5, 3, 0)] {
         put(&mut file, &chunk);
     }
     for length in [0u16, 3, 15, 16, 17, 18, 19, 20] {
