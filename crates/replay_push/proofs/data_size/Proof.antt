@@ -41,4 +41,4 @@ taken c e =
     ap (λ (h : Header). h .size - 16) (t .1)
 
 pub data-size-spec : {M : Type 1} → statement M
-data-size-spec = tie.close (tie.spec (λ c κs. search needs) (λ c. search needs) (λ c. search needs) long refused taken)
+data-size-spec = tie.close (tie.spec (λ c κs. tt) (λ c. search needs) (λ c. search needs) long refused taken)

@@ -31,4 +31,4 @@ stored c =
     rw (s .data-size .ensures (decodes-none raw told)) at (c .push .ensures) ∙ pushed-recorded raw (queueOf (a .queue) (a .table .now)) (m .any2 .given .0 .0) told
 
 pub push-record-spec : {M : Type 1} → statement M
-push-record-spec = tie.close (tie.spec (λ c κs. search needs) (λ c. search needs) (λ c. search needs) (λ c κs. search needs) (λ c κs. search needs) refused stored)
+push-record-spec = tie.close (tie.spec (λ c κs. tt) (λ c. search needs) (λ c. search needs) (λ c κs. tt) (λ c κs. tt) refused stored)

@@ -13,4 +13,4 @@ returns c ws =
     cut-left (stateOf (a .replay) ws) (a .line .now) (l .put-cut .ensures) (c .counted .ensures)
 
 pub cut-step-spec : {M : Type 1} → statement M
-cut-step-spec = tie.close (tie.spec (λ c κs. search needs) (λ c κs. search needs) returns)
+cut-step-spec = tie.close (tie.spec (λ c κs. search needs) (λ c κs. tt) returns)

@@ -8,4 +8,4 @@ returns : tie.Need-returns
 returns c = rw (c .before .new .ensures, c .new2 .ensures)
 
 pub new-spec : {M : Type 1} → statement M
-new-spec = tie.close (tie.spec (λ c κs. search needs) (λ c κs. search needs) returns)
+new-spec = tie.close (tie.spec (λ c κs. tt) (λ c κs. tt) returns)
