@@ -4,6 +4,7 @@ pub mod States
 pub mod Codecs
 pub mod Packets
 pub mod Queue
+pub mod InFlight
 pub mod Reassembly
 pub mod Hand
 pub mod Causes

@@ -41,7 +41,7 @@ abbrev byRefusal : {A R : Type 0} → (A → R) → (ℕ → R) → Refusal → 
 byRefusal is refused none v = is v
 byRefusal is refused (refuse k) v = refused k
 
-abbrev back : {A R : Type 0} → (A → R) → (ℕ → R) → Told A → R
+abbrev pub back : {A R : Type 0} → (A → R) → (ℕ → R) → Told A → R
 back is refused t = byRefusal is refused (t .refusal) (t .values)
 
 -- ── of the TSN queue ──
@@ -61,7 +61,7 @@ pub number-one : {b : Told ℕ} → Only (λ (r : Number). numberTold r ≡ b)
 number-one = only numberTold (back numbers.Is numbers.Refused) number-back
 
 -- a chunk, by its values
-abbrev chunkHeld : DataValues → ChunkPayloadData
+abbrev pub chunkHeld : DataValues → ChunkPayloadData
 chunkHeld v =
     record {
       unordered = v .unordered;

@@ -1,0 +1,4 @@
+pub mod Queue
+pub mod Answers
+pub mod Run
+pub mod Facts
