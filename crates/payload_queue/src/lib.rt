@@ -86,7 +86,7 @@ impl PayloadQueue {
         }
     }
 
-    // Whether the TSN is neither held nor at or before the cumulative one.
+    // Whether the TSN is neither held nor at or before the cumulative one. Yes too of one that is opposite to it and not held, which push refuses.
     pub fn can_push(self, table: &[u32; WORDS], tsn: u32, cumulative: u32) -> Flag
         ensures { λ r. ⌜ flagTold r ≡ canPush (queueOf self (now (table .entry))) tsn cumulative ⌝ }
     {

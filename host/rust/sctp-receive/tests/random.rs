@@ -84,11 +84,14 @@ fn tsn_queue() {
             let (chunk, size) = (r.chunk(base, span), r.below(65_536) as u16);
             match r.below(100) {
                 0..70 => {
-                    let from = if r.often(3) { chunk.tsn.wrapping_add(1 << 31) } else { cumulative };
-                    assert_eq!(q.can_push(chunk.tsn, from), m.can_push(chunk.tsn, from));
-                    let wanted = m.push(chunk, size, from);
-                    assert_eq!(q.push(&chunk, size, from), wanted);
-                    seen.count(wanted);
+                    // Now and then an opposite TSN, held or not, comes ahead of it.
+                    let opposite = r.often(3).then_some(chunk.tsn.wrapping_add(1 << 31));
+                    for from in opposite.into_iter().chain([cumulative]) {
+                        assert_eq!(q.can_push(chunk.tsn, from), m.can_push(chunk.tsn, from));
+                        let wanted = m.push(chunk, size, from);
+                        assert_eq!(q.push(&chunk, size, from), wanted);
+                        seen.count(wanted);
+                    }
                 }
                 70..85 => {
                     let tsn = m.held.first().map_or(chunk.tsn, |h| if r.often(80) { h.chunk.tsn } else { chunk.tsn });

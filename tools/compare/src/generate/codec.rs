@@ -21,7 +21,7 @@ pub fn run(m: &mut Maker) {
 
 /// Pairs of numbers about each distance that matters. Half way is difference 8, of which mode `in` has a few.
 pub fn serials(m: &mut Maker) {
-    for _ in 0..m.rng.within(10, 60) {
+    for _ in 0..m.rng.within(20, 100) {
         let near = m.rng.below(5).wrapping_sub(2);
         let any = m.rng.number();
         let far = m.rng.pick(&[0, 1 << 31, 1 << 15, any]);

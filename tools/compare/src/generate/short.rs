@@ -21,8 +21,8 @@ const FOUR: u64 = READERS * 13 * 13 * 13 * 13;
 const LENGTHS: u64 = READERS * 41 * 45 * 5;
 /// A SACK of 16 to 48 bytes with 0 to 8 blocks and duplicates.
 const SACKS: u64 = READERS * 33 * 9 * 9;
-/// Two numbers against every number of 16 bits, by each of two calls.
-const SSNS: u64 = 2 * 2 * 65_536;
+/// Two numbers against every number of 16 bits.
+const SSNS: u64 = 2 * 65_536;
 /// DATA of 0 to 40 bytes into 0 to 60; SACK of 0 to 6 blocks and duplicates into 0 to 70; FORWARD TSN of 0 to 6 pairs into 0 to 40.
 const WRITTEN: u64 = 41 * 61 + 7 * 7 * 71 + 7 * 41;
 /// Chunks and lists about their greatest length.
@@ -61,7 +61,7 @@ fn numbered(mut k: u64, mode: Mode) -> Call {
         (FOUR, |k, mode| reading(k % READERS, padded(some_bytes(k / READERS, 4), mode))),
         (LENGTHS, |k, mode| reading(k % READERS, padded(lengths(k / READERS), mode))),
         (SACKS, |k, mode| reading(k % READERS, padded(sack(k / READERS), mode))),
-        (SSNS, |k, _| compared(k)),
+        (SSNS, |k, _| Call::Sna16 { a: if k < 65_536 { 0 } else { 40_000 }, b: k as u16 }),
         (WRITTEN, |k, _| written(k)),
         (LONG, long),
         (SUMS, |k, _| summed(k)),
@@ -76,11 +76,6 @@ fn numbered(mut k: u64, mode: Mode) -> Call {
         k -= size;
     }
     unreachable!("above the count")
-}
-
-fn compared(k: u64) -> Call {
-    let (a, b) = (if k / 2 < 65_536 { 0 } else { 40_000 }, (k / 2) as u16);
-    if k % 2 == 0 { Call::Sna16 { a, b } } else { Call::SsnCompare { a, b } }
 }
 
 fn up_to_two(k: u64) -> Vec<u8> {
