@@ -311,6 +311,21 @@ int32_t sctp_receive_reassembly_queue_forward_tsn_for_unordered(uint16_t *si, ui
                                                                 size_t *n_bytes, uint32_t table[SCTP_RECEIVE_FRAGMENT_WORDS],
                                                                 uint8_t *pool, size_t pool_len, uint32_t new_cumulative_tsn);
 
+/* A skip held over a stream reset, with the cumulative TSN that it came with: drops incomplete ordered sets at or before an SSN of which
+ * a TSN at or before the new cumulative TSN is missing, and expects the first set at or before the SSN that is complete with a later TSN
+ * or incomplete with none missing up to it, or the one after the SSN where there is no such set, if that is later than what is expected. */
+int32_t sctp_receive_reassembly_queue_forward_tsn_for_ordered_bounded(
+    uint16_t *si, uint16_t *next_ssn, uint32_t *max_message_size, size_t *finished, size_t *unordered, size_t *ordered,
+    size_t *n_bytes, uint32_t table[SCTP_RECEIVE_FRAGMENT_WORDS], uint8_t *pool, size_t pool_len, uint16_t last_ssn,
+    uint32_t new_cumulative_tsn);
+
+/* How far such a skip applies by now, beside the peer's last TSN before the reset: `found`, and the SSN: the last, or that of a set before
+ * it. Changes nothing. */
+int32_t sctp_receive_reassembly_queue_applicable_forward_tsn_for_ordered_bounded(
+    uint16_t si, uint16_t next_ssn, uint32_t max_message_size, size_t finished, size_t unordered, size_t ordered, size_t n_bytes,
+    const uint32_t table[SCTP_RECEIVE_FRAGMENT_WORDS], const uint8_t *pool, size_t pool_len, uint16_t last_ssn,
+    uint32_t new_cumulative_tsn, uint32_t peer_last_tsn, bool *found, uint16_t *ssn);
+
 /* Applies a FORWARD TSN chunk: the ordered skip for each pair of its part `streams` that names the stream, in their order, then one
  * unordered skip. Bytes behind the last whole pair are ignored. Where its new cumulative TSN is at or before the cumulative TSN,
  * nothing changes. */

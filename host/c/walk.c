@@ -283,6 +283,27 @@ static void give_up(void)
     same("and SSN 2 is expected", r.next_ssn, 2);
 }
 
+/* A skip held over a stream reset: the point does not reach the piece that is held, so the piece stays, and its SSN is expected. */
+static void hold_back(void)
+{
+    struct chunk piece = {false, true, false, false, 9, STREAM, 3, SCTP_RECEIVE_BINARY, (const uint8_t *)image, 8};
+    bool whole, found = true;
+    uint16_t ssn = 7;
+    int32_t k = SCTP_RECEIVE_OK;
+    same("a piece after the skip's point", push(&piece, &whole), true);
+    k = sctp_receive_reassembly_queue_applicable_forward_tsn_for_ordered_bounded(
+        r.si, r.next_ssn, r.max_message_size, r.finished, r.unordered, r.ordered, r.n_bytes, r.table, r.pool, sizeof r.pool, 4, 8, 8,
+        &found, &ssn);
+    same("nothing of the skip applies yet", k, SCTP_RECEIVE_OK);
+    same("and no SSN is given", (long long)found + ssn, 0);
+    for (uint32_t point = 9; point < 11; point++) {
+        k = sctp_receive_reassembly_queue_forward_tsn_for_ordered_bounded(&r.si, &r.next_ssn, &r.max_message_size, &r.finished, &r.unordered,
+                                                                          &r.ordered, &r.n_bytes, r.table, r.pool, sizeof r.pool, 4, point);
+        same("a bounded skip", k, SCTP_RECEIVE_OK);
+        same("up to the piece, then past it", (long long)(r.n_bytes + r.next_ssn), point == 9 ? 8 + 3 : 0 + 5);
+    }
+}
+
 /* Writes a packet of the first chunk and a shorter one, which take 1 and 2 bytes of padding. */
 static size_t write_packet(uint8_t *out, size_t room)
 {
@@ -418,6 +439,7 @@ int main(void)
     take();
     read_message();
     give_up();
+    hold_back();
     walk_packet();
     read_causes();
     compare();

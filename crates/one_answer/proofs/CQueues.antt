@@ -7,10 +7,10 @@ use mathlib.Core.Bool.{Bool}
 use mathlib.Core.List.{List}
 use Prim.Native.Nat.{ℕ}
 use lib.IntN.{ℤ}
-use Rattle.wire.specs.Refusal.{Told, written}
+use Rattle.wire.specs.Refusal.{written}
 use Rattle.wire.proofs.Exists.{Bytes}
 use Rattle.chunk_payload_data.specs.declared.ChunkPayloadData.{ChunkPayloadData}
-use Rattle.payload_model.specs.Queue.{After, after, Queue, Found, Last, Handed, rowOf, pushed, canPush, popped, poppedUpTo, poppedDuplicates, got, containsStream, counted, isEmpty, numBytes, lastTsn}
+use Rattle.payload_model.specs.Queue.{After, after, Found, Last, Handed, rowOf, pushed, canPush, popped, poppedUpTo, poppedDuplicates, got, containsStream, counted, isEmpty, numBytes, lastTsn}
 use Rattle.payload_model.specs.GapCall.{Lists, lists, gapReport}
 use Rattle.payload_queue.specs.Queue.{queueOf, fresh}
 use Rattle.payload_queue.specs.declared.PayloadQueue.{PayloadQueue}
@@ -18,6 +18,9 @@ use Rattle.chunks.specs.Message as hand
 use Rattle.chunks.specs.declared.Chunks.{Chunks}
 use Rattle.reassembly_state.specs.Model.{Message}
 use Rattle.reassembly_state.specs.State as rq
+use Rattle.reassembly_bounded.specs.Bounded.{forwardBounded}
+use Rattle.reassembly_applicable.specs.Applicable as applying
+use Rattle.reassembly_applicable.specs.Applicable.{applicable}
 use Rattle.reassembly_queue.specs.Queue as rq-struct
 use Rattle.reassembly_queue.specs.Queue.{stateOf}
 use Rattle.reassembly_queue.specs.declared.ReassemblyQueue.{ReassemblyQueue}
@@ -135,6 +138,14 @@ module _ (self : ReassemblyQueue) (table pool : List ℕ) where
   pub c-reassembly-queue-forward-tsn-for-ordered-one : («last_ssn» : ℕ) → Only (λ (o : FragmentsLeft ℤ). Word (o .said) × (FragmentWords (o .table)
       × (rq.after (done (o .said)) (stateOf (o .queue) (o .table) (o .pool)) ≡ rq.forwardOrdered (stateOf self table pool) «last_ssn»)))
   c-reassembly-queue-forward-tsn-for-ordered-one «last_ssn» = fragments-done-one
+
+  pub c-reassembly-queue-forward-tsn-for-ordered-bounded-one : («last_ssn» «new_cumulative_tsn» : ℕ) → Only (λ (o : FragmentsLeft ℤ). Word (o .said) × (FragmentWords (o .table)
+      × (rq.after (done (o .said)) (stateOf (o .queue) (o .table) (o .pool)) ≡ forwardBounded (stateOf self table pool) «last_ssn» «new_cumulative_tsn»)))
+  c-reassembly-queue-forward-tsn-for-ordered-bounded-one «last_ssn» «new_cumulative_tsn» = fragments-done-one
+
+  pub c-reassembly-queue-applicable-forward-tsn-for-ordered-bounded-one : («last_ssn» «new_cumulative_tsn» «peer_last_tsn» : ℕ)
+      → Only (λ (o : Said applying.Found). Word (o .result) × (told (o .result) (o .values) ≡ applicable (stateOf self table pool) «last_ssn» «new_cumulative_tsn» «peer_last_tsn»))
+  c-reassembly-queue-applicable-forward-tsn-for-ordered-bounded-one «last_ssn» «new_cumulative_tsn» «peer_last_tsn» = said-one
 
   pub c-reassembly-queue-forward-tsn-for-unordered-one : («new_cumulative_tsn» : ℕ) → Only (λ (o : FragmentsLeft ℤ). Word (o .said) × (FragmentWords (o .table)
       × (rq.after (done (o .said)) (stateOf (o .queue) (o .table) (o .pool)) ≡ rq.forwardUnordered (stateOf self table pool) «new_cumulative_tsn»)))

@@ -13,6 +13,10 @@ use Rattle.reassembly_state.specs.Model.{Message}
 use Rattle.reassembly_state.specs.State.{After, after, pushed, isReadable, Read, reads, read, forwardOrdered, forwardUnordered, numBytes}
 use Rattle.reassembly_queue.specs.Queue.{stateOf, fresh}
 use Rattle.reassembly_state.specs.Answers.{tookTold, doneTold}
+use Rattle.reassembly_bounded.specs.Bounded.{forwardBounded}
+use Rattle.reassembly_applicable.specs.Applicable.{applicable}
+use Rattle.reassembly_applicable.specs.Answers.{applicableTold}
+use Rattle.reassembly_applicable.specs.declared.Applicable.{Applicable}
 use Rattle.reassembly_queue.specs.declared.ReassemblyQueue.{ReassemblyQueue}
 use Rattle.reassembly_queue.specs.declared.Pushed.{Pushed}
 use Rattle.reassembly_queue.specs.declared.Taken.{Taken}
@@ -21,7 +25,7 @@ use Rattle.wire.proofs.Exists.{Bytes}
 use Rattle.forward_tsn.specs.Applied.{Pairs, appliedToStream}
 use Rattle.forward_theorems.proofs.Pairs.{pairs-some}
 use Rattle.one_answer.proofs.Only.{Only, named-one, both}
-use Rattle.one_answer.proofs.Told.{hand-flag-one, hand-number-one, took-one, rq-done-one}
+use Rattle.one_answer.proofs.Told.{hand-flag-one, hand-number-one, took-one, rq-done-one, applicable-one}
 use Rattle.one_answer.proofs.States.{FragmentWords, rq-struct-one, rq-words-one, rq-pool-one}
 
 -- ── outcomes ──
@@ -84,6 +88,13 @@ module _ (self : ReassemblyQueue) (table pool : List ℕ) where
   pub rq-forward-tsn-for-unordered-one : («new_cumulative_tsn» : ℕ)
       → Only (λ (o : Left Forwarded). FragmentWords (o .table) × (after (doneTold (o .gives .answer)) (stateOf (o .gives .queue) (o .table) (o .pool)) ≡ forwardUnordered (stateOf self table pool) «new_cumulative_tsn»))
   rq-forward-tsn-for-unordered-one «new_cumulative_tsn» = left-one doneTold (λ b. rq-done-one) (λ (r : Forwarded). r .answer) (λ (r : Forwarded). r .queue) (λ r s. both (λ a l. record { answer = a; queue = l }))
+
+  pub rq-forward-tsn-for-ordered-bounded-one : («last_ssn» «new_cumulative_tsn» : ℕ)
+      → Only (λ (o : Left Forwarded). FragmentWords (o .table) × (after (doneTold (o .gives .answer)) (stateOf (o .gives .queue) (o .table) (o .pool)) ≡ forwardBounded (stateOf self table pool) «last_ssn» «new_cumulative_tsn»))
+  rq-forward-tsn-for-ordered-bounded-one «last_ssn» «new_cumulative_tsn» = left-one doneTold (λ b. rq-done-one) (λ (r : Forwarded). r .answer) (λ (r : Forwarded). r .queue) (λ r s. both (λ a l. record { answer = a; queue = l }))
+
+  pub rq-applicable-forward-tsn-for-ordered-bounded-one : («last_ssn» «new_cumulative_tsn» «peer_last_tsn» : ℕ) → Only (λ (r : Applicable). applicableTold r ≡ applicable (stateOf self table pool) «last_ssn» «new_cumulative_tsn» «peer_last_tsn»)
+  rq-applicable-forward-tsn-for-ordered-bounded-one «last_ssn» «new_cumulative_tsn» «peer_last_tsn» = applicable-one
 
   pub rq-get-num-bytes-one : Only (λ (r : Number). numberTold r ≡ numBytes (stateOf self table pool))
   rq-get-num-bytes-one = hand-number-one

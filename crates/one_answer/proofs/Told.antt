@@ -33,6 +33,10 @@ use Rattle.reassembly_state.specs.declared.Took.{Took}
 use Rattle.reassembly_state.specs.declared.Took.the-variants as messages
 use Rattle.reassembly_state.specs.declared.Done as rq-done
 use Rattle.reassembly_state.specs.declared.Done.the-variants as rq-dones
+use Rattle.reassembly_applicable.specs.Applicable as applying
+use Rattle.reassembly_applicable.specs.Answers.{applicableTold}
+use Rattle.reassembly_applicable.specs.declared.Applicable.{Applicable}
+use Rattle.reassembly_applicable.specs.declared.Applicable.the-variants as applicables
 use Rattle.one_answer.proofs.Only.{Only, only}
 
 -- ── an answer from what it tells: from its values, or from the number of its refusal ──
@@ -165,3 +169,14 @@ rq-done-back (rq-dones.Refused k) = refl
 
 pub rq-done-one : {b : Told Bool} → Only (λ (r : rq-done.Done). rq.doneTold r ≡ b)
 rq-done-one = only rq.doneTold (back (λ (b : Bool). rq-dones.All) rq-dones.Refused) rq-done-back
+
+abbrev applicableTaken : applying.Found → Applicable
+applicableTaken f = cond (f .found) (applicables.Ssn (f .ssn)) applicables.Nothing
+
+applicable-back : (r : Applicable) → back applicableTaken applicables.Refused (applicableTold r) ≡ r
+applicable-back (applicables.Ssn n) = refl
+applicable-back applicables.Nothing = refl
+applicable-back (applicables.Refused k) = refl
+
+pub applicable-one : {b : Told applying.Found} → Only (λ (r : Applicable). applicableTold r ≡ b)
+applicable-one = only applicableTold (back applicableTaken applicables.Refused) applicable-back

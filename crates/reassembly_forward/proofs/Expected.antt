@@ -4,11 +4,17 @@ use mathlib.Core.Path.{_≡_, refl, sym, ap, _∙_}
 use mathlib.Core.Bool.{true, false, cond}
 use Prim.Native.Nat.{ℕ}
 use Rattle.serial.specs.Serial.{next, atOrBefore}
-use Rattle.reassembly_state.specs.Model.{Queue, dropIncomplete, skipOrdered}
+use Rattle.reassembly_state.specs.Model.{Queue, withOrdered, dropIncomplete, skipOrdered}
+use Rattle.set_reach.specs.Kept.{stays, dropped}
+use Rattle.set_reach.proofs.Skip.{skipped-stays}
 use Rattle.reassembly_state.specs.State.{State, view, counts, lay}
 
+-- the sets that a skip with no point drops are the incomplete ones
+pub unbounded : (s : State) (last : ℕ) → lay (withOrdered (view s) (stays (dropped last false 0) (view s .ordered))) s ≡ lay (dropIncomplete (view s) last) s
+unbounded s last = rw (skipped-stays last 0 (view s .ordered))
+
 -- a state that expects another SSN
-abbrev expecting : ℕ → State → State
+abbrev pub expecting : ℕ → State → State
 expecting n s =
     record {
       queue = record {
@@ -28,7 +34,7 @@ moves-on : (s : State) (last : ℕ) → lay (skipOrdered (view s) last) s ≡ ex
 unfolding lay counts skipOrdered
 moves-on s last = refl
 
-expects : (m : Queue) (s : State) → lay m s .queue .«next_ssn» ≡ m .next
+pub expects : (m : Queue) (s : State) → lay m s .queue .«next_ssn» ≡ m .next
 unfolding lay counts
 expects m s = refl
 

@@ -1,15 +1,14 @@
 // Skips: incomplete ordered sets up to an SSN, and loose unordered fragments up to a TSN, dropped.
 ghost use mathlib.Core.Path.{_≡_};
-ghost use mathlib.Core.Bool.{false, not, _&&_};
+ghost use mathlib.Core.Bool.{false};
 ghost use Prim.Native.Nat.{_+_, _*_, _≤_, _<_};
 ghost use mathlib.Core.List.{map};
-ghost use lib.ListN.{length, getD, take, drop};
-ghost use Rattle.serial.specs.Serial.{atOrBefore};
-ghost use Rattle.table.specs.Rows.{blank, rowsOf, aheadOf};
-ghost use Rattle.fragments.specs.Frag.{bare, ofRow, ssnOf};
-ghost use Rattle.fragment_sets.specs.Sets.{otherSsn, complete};
+ghost use lib.ListN.{length, take, drop};
+ghost use Rattle.table.specs.Rows.{rowsOf};
+ghost use Rattle.fragments.specs.Frag.{bare};
+ghost use Rattle.set_reach.specs.Kept.{stays, dropped};
 ghost use Rattle.reassembly_state.specs.Limits.{fragsMost};
-ghost use Rattle.reassembly_state.specs.Model.{dropIncomplete};
+ghost use Rattle.reassembly_state.specs.Model.{withOrdered};
 ghost use Rattle.reassembly_state.specs.Answers.{doneTold};
 ghost use Rattle.reassembly_state.specs.State.{stateOf, unsound, view, lay, after, forwardOrdered, forwardUnordered};
 use reassembly_state::Counts;
@@ -18,36 +17,38 @@ use reassembly_state::FRAGMENTS;
 use reassembly_state::Forwarded;
 use reassembly_state::WORDS;
 
-// How many rows the set that starts at an index has, among n rows.
-fn set_at(table: &[u32], at: usize, n: usize) -> usize
-    requires { ⌜ length (now table) ≡ 4 * fragsMost ⌝ }
-    requires { ⌜ at + n ≤ fragsMost ⌝ }
-    requires { ⌜ 0 < n ⌝ }
-    ensures { λ r. ⌜ r ≡ aheadOf (ofRow (otherSsn (ssnOf (bare (getD (rowsOf fragsMost (now (table .entry))) at blank))))) (take n (drop at (rowsOf fragsMost (now (table .entry))))) ⌝ }
-{
-    let first = table::row_at(table, FRAGMENTS, at);
-    fragment_sets::run_ssn(table, FRAGMENTS, at, n, (first.id % 65536) as u16)
-}
-
-// Whether the set of k rows at an index is incomplete and at or before an SSN.
-fn passed_over(table: &[u32], at: usize, k: usize, last_ssn: u16) -> bool
+// Whether the set of k rows at an index goes: it is incomplete and at or before an SSN; where a cumulative point bounds the skip, that reaches it.
+fn passed_over(table: &[u32], at: usize, k: usize, last_ssn: u16, bounded: bool, tsn: u32) -> bool
     requires { ⌜ length (now table) ≡ 4 * fragsMost ⌝ }
     requires { ⌜ at + k ≤ fragsMost ⌝ }
     requires { ⌜ 0 < k ⌝ }
-    ensures { λ r. ⌜ r ≡ (atOrBefore 16 (ssnOf (bare (getD (rowsOf fragsMost (now (table .entry))) at blank))) «last_ssn» && not (complete (map bare (take k (drop at (rowsOf fragsMost (now (table .entry)))))))) ⌝ }
+    ensures { λ r. ⌜ r ≡ dropped «last_ssn» bounded tsn (map bare (take k (drop at (rowsOf fragsMost (now (table .entry)))))) ⌝ }
 {
     let first = table::row_at(table, FRAGMENTS, at);
     if !serial::sna16lte((first.id % 65536) as u16, last_ssn) {
         return false;
     }
-    !fragment_sets::is_complete(table, FRAGMENTS, at, k)
+    if fragment_sets::is_complete(table, FRAGMENTS, at, k) {
+        return false;
+    }
+    if !bounded {
+        return true;
+    }
+    set_reach::is_missing_tsn_at_or_before(table, FRAGMENTS, at, k, tsn)
 }
 
-// The queue without them: the sets that stay move down, one by one.
-fn drop_incomplete(queue: Counts, table: &mut [u32], pool: &mut [u8], last_ssn: u16) -> Counts
+// The queue without these sets: those that stay move down, one by one.
+pub fn drop_sets(
+    queue: Counts,
+    table: &mut [u32],
+    pool: &mut [u8],
+    last_ssn: u16,
+    bounded: bool,
+    tsn: u32,
+) -> Counts
     requires { ⌜ length (now table) ≡ 4 * fragsMost ⌝ }
     requires { ⌜ unsound (stateOf queue (now table) (now pool)) ≡ false ⌝ }
-    ensures { λ r. ⌜ stateOf r (now (table .exit)) (now (pool .exit)) ≡ lay (dropIncomplete (view (stateOf queue (now (table .entry)) (now (pool .entry)))) «last_ssn») (stateOf queue (now (table .entry)) (now (pool .entry))) ⌝ }
+    ensures { λ r. ⌜ stateOf r (now (table .exit)) (now (pool .exit)) ≡ lay (withOrdered (view (stateOf queue (now (table .entry)) (now (pool .entry)))) (stays (dropped «last_ssn» bounded tsn) (view (stateOf queue (now (table .entry)) (now (pool .entry))) .ordered))) (stateOf queue (now (table .entry)) (now (pool .entry))) ⌝ }
 {
     let from = queue.finished + queue.unordered;
     let held = from + queue.ordered;
@@ -58,11 +59,11 @@ fn drop_incomplete(queue: Counts, table: &mut [u32], pool: &mut [u8], last_ssn: 
     while at < held {
         let first = at;
         let place = off;
-        let k = set_at(table, first, held - first);
+        let k = set_reach::set_at(table, FRAGMENTS, first, held - first);
         let size = fragments::sum_long(table, FRAGMENTS, first, k);
         at += k;
         off += size;
-        if !passed_over(table, first, k, last_ssn) {
+        if !passed_over(table, first, k, last_ssn, bounded, tsn) {
             fragments::move_down(table, FRAGMENTS, pool, kept, first, k, bytes, place, off);
             kept += k;
             bytes += size;
@@ -89,7 +90,7 @@ pub fn forward_tsn_for_ordered(
             queue: counts,
         };
     }
-    let mut queue = drop_incomplete(counts, table, pool, last_ssn);
+    let mut queue = drop_sets(counts, table, pool, last_ssn, false, 0);
     if serial::sna16lte(queue.next_ssn, last_ssn) {
         queue.next_ssn = serial::ssn_next(last_ssn);
         return Forwarded {

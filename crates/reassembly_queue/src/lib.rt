@@ -4,6 +4,9 @@ ghost use mathlib.Core.Path.{_≡_};
 ghost use Rattle.chunks.specs.Message.{flagTold, numberTold};
 ghost use Rattle.reassembly_state.specs.State.{after, pushed, isReadable, reads, read, forwardOrdered, forwardUnordered, numBytes};
 ghost use Rattle.reassembly_state.specs.Answers.{tookTold, doneTold};
+ghost use Rattle.reassembly_bounded.specs.Bounded.{forwardBounded};
+ghost use Rattle.reassembly_applicable.specs.Applicable.{applicable};
+ghost use Rattle.reassembly_applicable.specs.Answers.{applicableTold};
 ghost use Rattle.reassembly_queue.specs.Queue.{countsOf, structOf, stateOf, fresh};
 
 mod push;
@@ -11,6 +14,7 @@ mod push;
 use chunk_payload_data::ChunkPayloadData;
 use chunks::Flag;
 use chunks::Number;
+pub use reassembly_applicable::Applicable;
 pub use reassembly_state::BYTES;
 use reassembly_state::Counts;
 pub use reassembly_state::Done;
@@ -172,6 +176,52 @@ impl ReassemblyQueue {
             answer,
             queue: queue_of(left.queue),
         }
+    }
+
+    // Drops incomplete sets at or before an SSN that a cumulative point reaches, and expects the first set that it does not reach, or the SSN after
+    // the last, where that is later than what is expected.
+    pub fn forward_tsn_for_ordered_bounded(
+        self,
+        table: &mut [u32; WORDS],
+        pool: &mut [u8],
+        last_ssn: u16,
+        new_cumulative_tsn: u32,
+    ) -> Forwarded
+        ensures { λ r. ⌜ after (doneTold (r .answer)) (stateOf (r .queue) (now (table .exit)) (now (pool .exit))) ≡ forwardBounded (stateOf self (now (table .entry)) (now (pool .entry))) «last_ssn» «new_cumulative_tsn» ⌝ }
+    {
+        let left = reassembly_bounded::forward_tsn_for_ordered_bounded(
+            self.counts(),
+            table,
+            pool,
+            last_ssn,
+            new_cumulative_tsn,
+        );
+        let answer = left.answer;
+        Forwarded {
+            answer,
+            queue: queue_of(left.queue),
+        }
+    }
+
+    // The SSN up to which such a skip applies by now: the last, or that of a set before it, or nothing.
+    pub fn applicable_forward_tsn_for_ordered_bounded(
+        self,
+        table: &[u32; WORDS],
+        pool: &[u8],
+        last_ssn: u16,
+        new_cumulative_tsn: u32,
+        peer_last_tsn: u32,
+    ) -> Applicable
+        ensures { λ r. ⌜ applicableTold r ≡ applicable (stateOf self (now (table .entry)) (now (pool .entry))) «last_ssn» «new_cumulative_tsn» «peer_last_tsn» ⌝ }
+    {
+        reassembly_applicable::applicable_forward_tsn_for_ordered_bounded(
+            self.counts(),
+            table,
+            pool,
+            last_ssn,
+            new_cumulative_tsn,
+            peer_last_tsn,
+        )
     }
 
     // The number of bytes held.

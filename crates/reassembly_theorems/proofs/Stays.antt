@@ -21,10 +21,11 @@ use Rattle.fragments.proofs.Pool.{Fit, fit-cut, joined-length}
 use Rattle.reassembly_state.specs.Limits.{fragsMost, bytesMost}
 use Rattle.reassembly_state.specs.Model.{Queue, held, Given, roomFor, keepOrdered, keepLoose, pushOrdered, pushUnordered, push, turn, readable, Took, taken, skipOrdered, skipUnordered}
 use Rattle.reassembly_state.specs.State.{State, fragments, unsound, view, lay, fragmentOf, pushed, read, forwardOrdered, forwardUnordered, numBytes}
+use Rattle.reassembly_bounded.specs.Bounded.{skipBounded, forwardBounded}
 use Rattle.reassembly_queue.specs.Queue.{stateOf, fresh}
 use Rattle.reassembly_state.proofs.Laws.{Sound, sound, held-view, fragments-length, size-held}
 use Rattle.reassembly_state.proofs.Laid.{sound-lay}
-use Rattle.reassembly_theorems.proofs.Within.{Within, ordered-within, loose-within, turn-within, skip-ordered-within, skip-unordered-within}
+use Rattle.reassembly_theorems.proofs.Within.{Within, ordered-within, loose-within, turn-within, skip-ordered-within, skip-unordered-within, skip-bounded-within}
 
 -- ── a queue that has room in its table and in a pool of n bytes ──
 
@@ -57,6 +58,9 @@ module _ {n : ℕ} {q : Queue} (g : Good n q) where
 
   pub skip-unordered-good : (t : ℕ) → Good n (skipUnordered q t)
   skip-unordered-good t = no-more (skipUnordered q t) (skip-unordered-within q t)
+
+  pub skip-bounded-good : (s t : ℕ) → Good n (skipBounded q s t)
+  skip-bounded-good s t = no-more (skipBounded q s t) (skip-bounded-within q s t)
 
   module _ (long : bytesMost ≤ n) (f : Frag) where
     one-more : (m : Queue) → Within (f ∷ held q) (held m) → roomFor q f ≡ true → Good n m
@@ -134,6 +138,10 @@ module _ (s : State) (e : unsound s ≡ false) (full : length (s .rows) ≡ frag
   unfolding forwardUnordered
   unordered-keeps tsn = rw e (stays-laid _ (skip-unordered-good good-view tsn))
 
+  pub bounded-keeps : (ssn tsn : ℕ) → Stays s (forwardBounded s ssn tsn .state)
+  unfolding forwardBounded
+  bounded-keeps ssn tsn = rw e (stays-laid _ (skip-bounded-good good-view ssn tsn))
+
   -- "The byte count is the sum of held lengths.": after every call again
 
   pub push-stays : (p : ChunkPayloadData) (bytes : List ℕ) → unsound (pushed s p bytes .state) ≡ false
@@ -147,6 +155,9 @@ module _ (s : State) (e : unsound s ≡ false) (full : length (s .rows) ≡ frag
 
   pub unordered-stays : (tsn : ℕ) → unsound (forwardUnordered s tsn .state) ≡ false
   unordered-stays tsn = unordered-keeps tsn .sound
+
+  pub bounded-stays : (ssn tsn : ℕ) → unsound (forwardBounded s ssn tsn .state) ≡ false
+  bounded-stays ssn tsn = bounded-keeps ssn tsn .sound
 
 pub fresh-sound : (si max : ℕ) (ws pool : List ℕ) → bytesMost ≤ length pool → unsound (stateOf (fresh si max) ws pool) ≡ false
 unfolding unsound total

@@ -1,7 +1,7 @@
 -- What each call of the model holds, measured by what was held before it: no more fragments, no more bytes, none too long.
 -- Assumes nothing.
 use mathlib.Core.Path.{_≡_, refl, ap, _∙_}
-use mathlib.Core.Bool.{Bool, true, false, cond, not, _&&_}
+use mathlib.Core.Bool.{Bool, true, false, cond}
 use mathlib.Core.List.{List, [], _∷_, _++_}
 use Prim.Native.Nat.{ℕ, _+_, _-_, _≤_}
 use native.Mathlib.Omega.{arith}
@@ -12,13 +12,17 @@ use Rattle.moves.specs.Lists.{slice, gone}
 use Rattle.moves.proofs.Turned.{turned-long}
 use Rattle.fragments.specs.Frag.{Frag, ssnOf, hasSsn, tsnBefore, ssnBefore}
 use Rattle.fragments.specs.Words.{size, any, while, past, placed, concat}
-use Rattle.fragment_sets.specs.Sets.{otherSsn, fromSet, setOf, complete, grownSet, joins, stored, ahead, sets, setUpTo, keptSets, skipped}
+use Rattle.fragment_sets.specs.Sets.{otherSsn, fromSet, setOf, grownSet, joins, stored, ahead, sets, skipped}
 use Rattle.loose_fragments.specs.Loose.{scanned}
 use Rattle.loose_fragments.specs.declared.Span.{Span}
 use Rattle.fragments.proofs.Pool.{Fit, fit-append, fit-turned, size-append, size-turned}
 use Rattle.fragments.proofs.Words.{while-past}
 use Rattle.fragment_sets.proofs.Sets.{stored-in, stored-new}
 use Rattle.loose_fragments.proofs.Scanned.{scan-within}
+use Rattle.set_reach.specs.Kept as skips
+use Rattle.set_reach.specs.Kept.{without, stays}
+use Rattle.set_reach.proofs.Skip.{skipped-stays}
+use Rattle.reassembly_bounded.specs.Bounded.{abandoned, skipBounded}
 use Rattle.reassembly_state.specs.Model.{Queue, queue, held, gives, keepOrdered, moveRun, keepLoose, throughEnd, readySet, orderedTurn, finishedTurn, turn, skipOrdered, notAfter, skipUnordered}
 use Rattle.reassembly_state.proofs.Parts.{turned-middle}
 
@@ -125,18 +129,21 @@ unfolding concat sets
 concat-sets [] = refl
 concat-sets (x ∷ xs) = concat-ahead x (sets xs) ∙ ap (λ (l : List Frag). x ∷ l) (concat-sets xs)
 
-kept-within : (s : ℕ) (ls : List (List Frag)) → Within (concat ls) (concat (keptSets s ls))
-unfolding concat keptSets
-kept-within s [] = same []
-kept-within s (l ∷ ls) = go (setUpTo s l && not (complete l)) (kept-within s ls)
+without-within : (goes : List Frag → Bool) (ls : List (List Frag)) → Within (concat ls) (concat (without goes ls))
+unfolding concat without
+without-within goes [] = same []
+without-within goes (l ∷ ls) = go (goes l) (without-within goes ls)
   where
-    go : (b : Bool) → Within (concat ls) (concat (keptSets s ls)) → Within (l ++ concat ls) (concat (cond b (keptSets s ls) (l ∷ keptSets s ls)))
+    go : (b : Bool) → Within (concat ls) (concat (without goes ls)) → Within (l ++ concat ls) (concat (cond b (without goes ls) (l ∷ without goes ls)))
     go true h = onward (behind l (concat ls)) h
     go false h = beside (same l) h
 
+stays-within : (goes : List Frag → Bool) (l : List Frag) → Within l (stays goes l)
+unfolding stays
+stays-within goes l = rw (concat-sets l) at (without-within goes (sets l))
+
 skipped-within : (s : ℕ) (l : List Frag) → Within l (skipped s l)
-unfolding skipped
-skipped-within s l = rw (concat-sets l) at (kept-within s (sets l))
+skipped-within s l = rw (skipped-stays s 0 l) (stays-within (skips.dropped s false 0) l)
 
 -- ── the calls of the model ──
 
@@ -189,3 +196,7 @@ skip-ordered-within q s = beside (same (q .finished)) (beside (same (q .unordere
 pub skip-unordered-within : (q : Queue) (t : ℕ) → Within (held q) (held (skipUnordered q t))
 unfolding skipUnordered
 skip-unordered-within q t = beside (same (q .finished)) (beside (passed (notAfter t) (q .unordered)) (same (q .ordered)))
+
+pub skip-bounded-within : (q : Queue) (s t : ℕ) → Within (held q) (held (skipBounded q s t))
+unfolding skipBounded
+skip-bounded-within q s t = beside (same (q .finished)) (beside (same (q .unordered)) (stays-within (abandoned s t) (q .ordered)))

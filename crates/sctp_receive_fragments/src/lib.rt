@@ -3,12 +3,14 @@
 ghost use mathlib.Core.Path.{_≡_};
 ghost use Rattle.chunks.specs.Message.{flagTold, numberTold, pieceTold};
 ghost use Rattle.reassembly_state.specs.Answers.{tookTold, doneTold};
+ghost use Rattle.reassembly_applicable.specs.Answers.{applicableTold};
 ghost use Rattle.sctp_receive_result.specs.Result.{told, back, done};
-ghost use Rattle.sctp_receive_model.specs.States.{fragmentCounts, messageFrom, handFrom, pieceFrom};
+ghost use Rattle.sctp_receive_model.specs.States.{fragmentCounts, messageFrom, foundFrom, handFrom, pieceFrom};
 use chunks::Chunks;
 use chunks::Flag;
 use chunks::Number;
 use chunks::Piece;
+use reassembly_queue::Applicable;
 use reassembly_queue::Done;
 use reassembly_queue::ReassemblyQueue;
 use reassembly_queue::Took;
@@ -129,6 +131,23 @@ pub fn taken(
         }
         Took::Nothing => -1,
         Took::Refused(k) => k as i32,
+    }
+}
+
+// The SSN up to which a skip applies, if there is one.
+pub fn applicable(answer: Applicable, found: &mut bool, ssn: &mut u16) -> i32
+    ensures { λ r. ⌜ told (back r) (foundFrom (now (found .exit)) (now (ssn .exit))) ≡ applicableTold answer ⌝ }
+{
+    *found = false;
+    *ssn = 0;
+    match answer {
+        Applicable::Ssn(n) => {
+            *found = true;
+            *ssn = n;
+            -1
+        }
+        Applicable::Nothing => -1,
+        Applicable::Refused(k) => k as i32,
     }
 }
 

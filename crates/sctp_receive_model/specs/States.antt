@@ -10,6 +10,7 @@ use Rattle.chunks.specs.Message.{Place}
 use Rattle.chunks.specs.declared.Chunks.{Chunks}
 use Rattle.reassembly_state.specs.Model.{Message}
 use Rattle.reassembly_state.specs.State.{State}
+use Rattle.reassembly_applicable.specs.Applicable.{Found}
 use Rattle.reassembly_queue.specs.Queue.{stateOf}
 use Rattle.reassembly_queue.specs.declared.ReassemblyQueue.{ReassemblyQueue}
 
@@ -44,6 +45,10 @@ stateFrom si next max finished unordered ordered bytes ws pool = stateOf (fragme
 abbrev pub messageFrom : Bool → ℕ → ℕ → ℕ → ℕ → Bool → Message
 messageFrom found ssn ppi size position given =
     record { comes = found; ssn = ssn; ppi = ppi; size = size; position = position; given = given }
+
+-- the SSN up to which a skip applies, if there is one
+abbrev pub foundFrom : Bool → ℕ → Found
+foundFrom found ssn = record { found = found; ssn = ssn }
 
 -- ── the message in hand ──
 

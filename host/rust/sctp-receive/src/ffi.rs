@@ -127,6 +127,12 @@ unsafe extern "C" {
     fn sctp_receive_reassembly_queue_forward_tsn_for_unordered(si: &mut u16, next_ssn: &mut u16, max_message_size: &mut u32,
         finished: &mut usize, unordered: &mut usize, ordered: &mut usize, n_bytes: &mut usize, table: &mut [u32; FRAGMENT_WORDS],
         pool: *mut u8, pool_len: usize, new_cumulative_tsn: u32) -> i32;
+    fn sctp_receive_reassembly_queue_forward_tsn_for_ordered_bounded(si: &mut u16, next_ssn: &mut u16, max_message_size: &mut u32,
+        finished: &mut usize, unordered: &mut usize, ordered: &mut usize, n_bytes: &mut usize, table: &mut [u32; FRAGMENT_WORDS],
+        pool: *mut u8, pool_len: usize, last_ssn: u16, new_cumulative_tsn: u32) -> i32;
+    fn sctp_receive_reassembly_queue_applicable_forward_tsn_for_ordered_bounded(si: u16, next_ssn: u16, max_message_size: u32,
+        finished: usize, unordered: usize, ordered: usize, n_bytes: usize, table: &[u32; FRAGMENT_WORDS], pool: *const u8,
+        pool_len: usize, last_ssn: u16, new_cumulative_tsn: u32, peer_last_tsn: u32, found: &mut bool, ssn: &mut u16) -> i32;
     fn sctp_receive_forward_tsn_apply_to_stream(si: &mut u16, next_ssn: &mut u16, max_message_size: &mut u32,
         finished: &mut usize, unordered: &mut usize, ordered: &mut usize, n_bytes: &mut usize, table: &mut [u32; FRAGMENT_WORDS],
         pool: *mut u8, pool_len: usize, cumulative_tsn: u32, new_cumulative_tsn: u32, streams: *const u8,
@@ -340,6 +346,69 @@ pub(crate) fn reassembly_queue_forward_tsn_for_ordered(
     unsafe {
         sctp_receive_reassembly_queue_forward_tsn_for_ordered(
             si, next, max, finished, unordered, ordered, n_bytes, table, pool, pool_len, last_ssn,
+        )
+    }
+}
+
+/// The SSN and the new cumulative TSN of a bounded skip.
+#[inline]
+pub(crate) fn reassembly_queue_forward_tsn_for_ordered_bounded(
+    q: &mut Numbers,
+    table: &mut [u32; FRAGMENT_WORDS],
+    pool: &mut [u8],
+    (last_ssn, new_cumulative_tsn): (u16, u32),
+) -> i32 {
+    let (pool, pool_len) = (pool.as_mut_ptr(), pool.len());
+    let (si, next, max) = (&mut q.si, &mut q.next_ssn, &mut q.max_message_size);
+    let (finished, unordered, ordered, n_bytes) = (&mut q.finished, &mut q.unordered, &mut q.ordered, &mut q.n_bytes);
+    // SAFETY: pointer and length are one slice's, and the pool is lent to us alone.
+    unsafe {
+        sctp_receive_reassembly_queue_forward_tsn_for_ordered_bounded(
+            si,
+            next,
+            max,
+            finished,
+            unordered,
+            ordered,
+            n_bytes,
+            table,
+            pool,
+            pool_len,
+            last_ssn,
+            new_cumulative_tsn,
+        )
+    }
+}
+
+/// The SSN, the new cumulative TSN and the peer's last TSN of a bounded skip.
+#[inline]
+pub(crate) fn reassembly_queue_applicable_forward_tsn_for_ordered_bounded(
+    q: &Numbers,
+    table: &[u32; FRAGMENT_WORDS],
+    pool: &[u8],
+    (last_ssn, new_cumulative_tsn, peer_last_tsn): (u16, u32, u32),
+    found: &mut bool,
+    ssn: &mut u16,
+) -> i32 {
+    let (pool, pool_len) = (pool.as_ptr(), pool.len());
+    // SAFETY: pointer and length are one slice's.
+    unsafe {
+        sctp_receive_reassembly_queue_applicable_forward_tsn_for_ordered_bounded(
+            q.si,
+            q.next_ssn,
+            q.max_message_size,
+            q.finished,
+            q.unordered,
+            q.ordered,
+            q.n_bytes,
+            table,
+            pool,
+            pool_len,
+            last_ssn,
+            new_cumulative_tsn,
+            peer_last_tsn,
+            found,
+            ssn,
         )
     }
 }

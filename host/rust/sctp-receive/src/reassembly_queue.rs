@@ -72,6 +72,24 @@ impl ReassemblyQueue {
         never_refused(result);
     }
 
+    /// A skip held over a stream reset, with the cumulative TSN that it came with: drops incomplete sets at or before an SSN that this TSN reaches, and
+    /// expects the first set that it does not reach, or the SSN after the last, where that is later than what is expected.
+    #[inline]
+    pub fn forward_tsn_for_ordered_bounded(&mut self, last_ssn: u16, new_cumulative_tsn: u32) {
+        let skip = (last_ssn, new_cumulative_tsn);
+        never_refused(ffi::reassembly_queue_forward_tsn_for_ordered_bounded(&mut self.numbers, &mut self.table, &mut self.pool, skip));
+    }
+
+    /// The SSN up to which such a skip applies by now, if there is one.
+    #[inline]
+    pub fn applicable_forward_tsn_for_ordered_bounded(&self, last_ssn: u16, new_cumulative_tsn: u32, peer_last_tsn: u32) -> Option<u16> {
+        let (mut found, mut ssn) = (false, 0);
+        let skip = (last_ssn, new_cumulative_tsn, peer_last_tsn);
+        let result = ffi::reassembly_queue_applicable_forward_tsn_for_ordered_bounded(&self.numbers, &self.table, &self.pool, skip, &mut found, &mut ssn);
+        never_refused(result);
+        found.then_some(ssn)
+    }
+
     /// Applies a FORWARD TSN chunk: the ordered skip for each pair that names the stream, in their order, then one unordered skip; nothing where its
     /// new cumulative TSN is at or before the cumulative one.
     #[inline]

@@ -95,3 +95,24 @@ fn applied_to_the_tsn_queue() {
     assert_eq!((q.len(), q.get_num_bytes(), q.get_last_tsn_received()), (1, 10, Some(101)));
     assert_eq!(q.pop_duplicates().as_slice(), [100]); // the log stays
 }
+
+#[test]
+fn held_over_a_stream_reset() {
+    let mut q = ReassemblyQueue::new(3, 1_000);
+    // SSN 0 lacks TSN 11, SSN 1 is complete up to TSN 14, SSN 2 lacks TSN 16
+    for (tsn, ssn, flags) in [(10, 0, "B"), (12, 0, "E"), (13, 1, "B"), (14, 1, "E"), (15, 2, "B")] {
+        assert_eq!(q.push(&data(tsn, ssn, flags), b"ab"), Ok(tsn == 14));
+    }
+    // SSN 2 is held with a TSN up to 15; with 14 the sets that may end a part are those up to SSN 1; with 9 and a point at 10 there is none
+    let applies = |q: &ReassemblyQueue, point, peer| q.applicable_forward_tsn_for_ordered_bounded(2, point, peer);
+    assert_eq!([applies(&q, 10, 15), applies(&q, 10, 14), applies(&q, 10, 9), applies(&q, 11, 9)], [Some(2), Some(1), None, Some(0)]);
+    assert_eq!(applies(&q, 16, 9), Some(2));
+    // the point 13 reaches SSN 0 and not SSN 1, whose last TSN is 14
+    q.forward_tsn_for_ordered_bounded(2, 13);
+    assert_eq!((q.get_num_bytes(), q.is_readable()), (6, true));
+    q.forward_tsn_for_ordered_bounded(2, 15);
+    assert_eq!(q.get_num_bytes(), 6);
+    q.forward_tsn_for_ordered_bounded(2, 16);
+    assert_eq!((q.get_num_bytes(), q.is_readable()), (4, true));
+    assert_eq!(applies(&q, 0, 0), Some(2));
+}

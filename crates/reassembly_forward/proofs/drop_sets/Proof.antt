@@ -1,4 +1,4 @@
--- `reassembly_forward::drop_incomplete` meets its contract: after each set those that stay of the passed ones stand at the front.
+-- `reassembly_forward::drop_sets` meets its contract: after each set those that stay of the passed ones stand at the front.
 -- Assumes nothing.
 use mathlib.Core.Path.{_≡_, refl, sym, _∙_}
 use Prim.Native.Nat.{_+_, _*_, _-_, _≤_, _<_}
@@ -9,16 +9,17 @@ use Rattle.table.proofs.Columns.{rows-long}
 use Rattle.reassembly_state.specs.Limits.{fragsMost}
 use Rattle.reassembly_state.specs.State.{State, stateOf, count}
 use Rattle.reassembly_state.proofs.Laws.{Sound, sound}
-use Rattle.reassembly_forward.proofs.Skip.{Skip, skip-none, skip-set, skip-bytes, skip-goes, skip-stays, skip-pool, skip-all}
-use Rattle.reassembly_forward.proofs.drop_incomplete.Statement.{statement}
-use Rattle.reassembly_forward.proofs.drop_incomplete.Tie as tie
+use Rattle.set_reach.specs.Kept.{dropped}
+use Rattle.set_reach.proofs.Skip.{Skip, dropped-blind, skip-none, skip-set, skip-bytes, skip-goes, skip-stays, skip-pool, skip-all}
+use Rattle.reassembly_forward.proofs.drop_sets.Statement.{statement}
+use Rattle.reassembly_forward.proofs.drop_sets.Tie as tie
 
 abbrev Inv : tie.InvT-loop
-Inv queue table₀ pool₀ last-ssn from held at₀ off₀ kept₀ bytes₀ table pool at off kept bytes =
-    (length table ≡ 4 * fragsMost) × Skip last-ssn (stateOf queue table₀ pool₀) (rowsOf fragsMost table) pool at off kept bytes
+Inv queue table₀ pool₀ last-ssn bounded tsn from held at₀ off₀ kept₀ bytes₀ table pool at off kept bytes =
+    (length table ≡ 4 * fragsMost) × Skip (dropped last-ssn bounded tsn) (stateOf queue table₀ pool₀) (rowsOf fragsMost table) pool at off kept bytes
 
 abbrev μ : tie.MeasureT-loop
-μ queue table₀ pool₀ last-ssn from held at₀ off₀ kept₀ bytes₀ table pool at off kept bytes = held - at
+μ queue table₀ pool₀ last-ssn bounded tsn from held at₀ off₀ kept₀ bytes₀ table pool at off kept bytes = held - at
 
 -- the state that is lent
 abbrev of : tie.Start Inv μ → State
@@ -34,7 +35,7 @@ ok s = sound (of s) (s .pre .1)
 none : tie.Need-loop-holds Inv μ
 none c =
     let s = c .before .before .before .before .before .before in
-    (s .pre .0, skip-none (s .args .last-ssn) (of s) (ok s) (rows-long fragsMost (s .args .table .now) (s .pre .0)) refl (c .sum-long .ensures))
+    (s .pre .0, skip-none (dropped (s .args .last-ssn) (s .args .bounded) (s .args .tsn)) (dropped-blind (s .args .last-ssn) (s .args .bounded) (s .args .tsn)) (of s) (ok s) (rows-long fragsMost (s .args .table .now) (s .pre .0)) refl (c .sum-long .ensures))
 
 -- the set that is next has a row, and its rows and bytes are there
 rows-fit : (c : tie.After-set-at Inv μ) → let l = c .before .before .before in (0 < c .set-at .result) × (l .loop .at + c .set-at .result ≤ count (of (start l) .queue))
@@ -52,8 +53,8 @@ add-off c = omega (arith, bytes-fit c)
 abbrev moved : tie.After-slice-known4 Inv μ → tie.After-sum-long2 Inv μ
 moved c = c .before .before .before .before .before .before .before .before .before .before
 
-stays : tie.Need-loop-again Inv μ
-stays c =
+remains : tie.Need-loop-again Inv μ
+remains c =
     let m = c .before .before .before .before in
     let t = m .before .before .before in
     let o = t .before in
@@ -75,8 +76,8 @@ goes c =
       skip-goes (l .loop .inv .1) (omega arith) (k .set-at .ensures) (b .sum-long2 .ensures) (o .passed-over .ensures) (c .if1 .left),
     )
 
-pub drop-incomplete-spec : {M : Type 1} → statement M
-drop-incomplete-spec =
+pub drop-sets-spec : {M : Type 1} → statement M
+drop-sets-spec =
     tie.close
     (tie.spec Inv μ
     (λ c. omega (arith, ok (c .before .before .before) .few))
@@ -94,7 +95,7 @@ drop-incomplete-spec =
     (λ c. omega (arith, rows-fit (moved c .before .before)))
     (λ c. omega (arith, add-off (moved c), moved c .before .before .before .before .before .loop .inv .1 .small))
     (λ c. omega (arith, rows-fit (moved c .before .before)))
-    stays
+    remains
     (λ c. omega (arith, rows-fit (c .before .before .before .before .before)))
     goes
     (λ c. omega arith)

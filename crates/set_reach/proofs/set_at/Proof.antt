@@ -1,8 +1,8 @@
--- `reassembly_forward::set_at` meets its contract: the set at an index has the SSN of the row there, and the run of that SSN is counted.
+-- `set_reach::set_at` meets its contract: the set at an index has the SSN of the row there, and the run of that SSN is counted.
 -- Assumes nothing.
 use borrow.Author.Needs.{needs}
-use Rattle.reassembly_forward.proofs.set_at.Statement.{statement}
-use Rattle.reassembly_forward.proofs.set_at.Tie as tie
+use Rattle.set_reach.proofs.set_at.Statement.{statement}
+use Rattle.set_reach.proofs.set_at.Tie as tie
 
 returns : tie.Need-returns
 returns c = let r = c .before .before in rw (← (r .row-at .ensures)) (c .run-ssn .ensures)

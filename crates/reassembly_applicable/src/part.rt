@@ -1,0 +1,92 @@
+// How much of a skip applies where not all of it does.
+ghost use mathlib.Core.Path.{_≡_};
+ghost use mathlib.Core.Bool.{cond};
+ghost use mathlib.Core.List.{map};
+ghost use Prim.Native.Nat.{_+_, _*_, _≤_, _<_};
+ghost use lib.ListN.{length, take, drop};
+ghost use Rattle.wire.specs.Refusal.{none, says};
+ghost use Rattle.serial.specs.Serial.{before};
+ghost use Rattle.table.specs.Rows.{rowsOf};
+ghost use Rattle.fragments.specs.Frag.{bare};
+ghost use Rattle.fragment_sets.specs.Sets.{sets};
+ghost use Rattle.set_reach.specs.Kept.{ssnsOf, highest};
+ghost use Rattle.reassembly_state.specs.Limits.{fragsMost};
+ghost use Rattle.reassembly_applicable.specs.Applicable.{endsPart, foundIn};
+ghost use Rattle.reassembly_applicable.specs.Answers.{applicableTold};
+use crate::Applicable;
+use reassembly_state::FRAGMENTS;
+
+// Whether the set of k rows at an index may end a part: from the expected SSN on, before the last, and reached by the point or begun by the peer's last TSN.
+fn ends_part(
+    table: &[u32],
+    at: usize,
+    k: usize,
+    expected: u16,
+    last_ssn: u16,
+    tsn: u32,
+    peer_last_tsn: u32,
+) -> bool
+    requires { ⌜ length (now table) ≡ 4 * fragsMost ⌝ }
+    requires { ⌜ at + k ≤ fragsMost ⌝ }
+    requires { ⌜ 0 < k ⌝ }
+    ensures { λ r. ⌜ r ≡ endsPart expected «last_ssn» tsn «peer_last_tsn» (map bare (take k (drop at (rowsOf fragsMost (now (table .entry)))))) ⌝ }
+{
+    let first = table::row_at(table, FRAGMENTS, at);
+    let ssn = (first.id % 65536) as u16;
+    if !serial::sna16lte(expected, ssn) {
+        return false;
+    }
+    if !serial::sna16lt(ssn, last_ssn) {
+        return false;
+    }
+    if set_reach::is_reached(table, FRAGMENTS, at, k, tsn) {
+        return true;
+    }
+    serial::sna32lte(first.tsn, peer_last_tsn)
+}
+
+// The higher of two SSNs, the first of them on a tie; the second where there is no first.
+fn higher(found: bool, kept: u16, ssn: u16) -> u16
+    ensures { λ r. ⌜ r ≡ cond found (cond (before 16 kept ssn) ssn kept) ssn ⌝ }
+{
+    if !found {
+        return ssn;
+    }
+    if serial::sna16gt(ssn, kept) {
+        return ssn;
+    }
+    kept
+}
+
+// The highest SSN of the sets that may end a part.
+pub fn highest_part(
+    table: &[u32],
+    from: usize,
+    n: usize,
+    expected: u16,
+    last_ssn: u16,
+    tsn: u32,
+    peer_last_tsn: u32,
+) -> Applicable
+    requires { ⌜ length (now table) ≡ 4 * fragsMost ⌝ }
+    requires { ⌜ from + n ≤ fragsMost ⌝ }
+    ensures { λ r. ⌜ applicableTold r ≡ says none (foundIn (highest 16 (ssnsOf (endsPart expected «last_ssn» tsn «peer_last_tsn») (sets (map bare (take n (drop from (rowsOf fragsMost (now (table .entry)))))))))) ⌝ }
+{
+    let mut found = false;
+    let mut highest: u16 = 0;
+    let mut i: usize = 0;
+    while i < n {
+        let at = from + i;
+        let k = set_reach::set_at(table, FRAGMENTS, at, n - i);
+        i += k;
+        if ends_part(table, at, k, expected, last_ssn, tsn, peer_last_tsn) {
+            let first = table::row_at(table, FRAGMENTS, at);
+            highest = higher(found, highest, (first.id % 65536) as u16);
+            found = true;
+        }
+    }
+    if found {
+        return Applicable::Ssn(highest);
+    }
+    Applicable::Nothing
+}
