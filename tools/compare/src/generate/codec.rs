@@ -21,8 +21,8 @@ pub fn run(m: &mut Maker) {
 
 /// Pairs of numbers about each distance that matters. Half way is difference 8, of which mode `in` has a few.
 pub fn serials(m: &mut Maker) {
-    for _ in 0..m.rng.within(20, 100) {
-        let near = m.rng.below(5).wrapping_sub(2);
+    for _ in 0..m.rng.within(10, 60) {
+        let near = m.rng.pick(&[0, 0, 1, 2, u64::MAX, u64::MAX - 1]);
         let any = m.rng.number();
         let far = m.rng.pick(&[0, 1 << 31, 1 << 15, any]);
         let (a, b) = (m.rng.number(), near.wrapping_add(far));
