@@ -1,5 +1,10 @@
 // A window over standard input, in which the next call or record stands whole: where less than the longest one is left, what is left goes to the front and
 // more is read behind it.
+ghost use mathlib.Core.Path.{_≡_};
+ghost use Prim.Native.Nat.{min};
+ghost use lib.ListN.{length};
+ghost use Rattle.wire.specs.BigEndian.{over};
+ghost use Rattle.moves.specs.Lists.{slice};
 use answer_text::operands;
 use libc::STDIN_FILENO;
 
@@ -43,17 +48,22 @@ pub fn ready(window: &mut [u8; WINDOW], view: View) -> View {
     }
 }
 
+fn least(a: usize, b: usize) -> usize
+    ensures { λ r. ⌜ r ≡ min a b ⌝ }
+{
+    if a < b { a } else { b }
+}
+
 // Moves the bytes between two places to the front; how many they are.
-fn shift(window: &mut [u8], from: usize, to: usize) -> usize {
-    let to = operands::most(to, window.len());
-    let mut n: usize = 0;
-    let mut i = from;
-    while i < to {
-        window[n] = window[i];
-        n += 1;
-        i += 1;
+fn shift(window: &mut [u8], from: usize, to: usize) -> usize
+    ensures { λ r. ⌜ (now (window .exit) ≡ over (now (window .entry)) (slice from to (now (window .entry)))) × (r ≡ length (slice from to (now (window .entry)))) ⌝ }
+{
+    let end = least(to, window.len());
+    if end <= from {
+        return 0;
     }
-    n
+    moves::close_bytes(window, end, 0, from);
+    end - from
 }
 
 // Reads on behind the first bytes; where what is there then ends.

@@ -52,10 +52,11 @@ partedAt none bytes rest = []
 partedAt short bytes rest = cut ∷ []
 partedAt (chunk n) bytes rest = whole (take n (drop 2 bytes)) ∷ rest (drop (2 + n) bytes)
 
--- "After 2^33 records it ends as at the file's end": at most so many
+-- at most so many of them
 abbrev pub recordsOf : ℕ → List ℕ → List Part
 recordsOf zero bytes = []
 recordsOf (suc most) bytes = partedAt (start bytes) bytes (recordsOf most)
 
+-- "After 2^33 records it ends as at the file's end."
 abbrev pub recordsMost : ℕ
 recordsMost = 8589934592

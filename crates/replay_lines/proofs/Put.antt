@@ -4,7 +4,7 @@ use mathlib.Core.Path.{_≡_, refl, sym, ap, _∙_}
 use mathlib.Core.List.{List, [], _∷_, _++_, append-assoc}
 use Prim.Native.Nat.{ℕ, _+_, _-_, _≤_}
 use native.Mathlib.Omega.{arith}
-use lib.ListN.{length, take, drop, length-append, take-append-drop}
+use lib.ListN.{length, take, length-append, take-append-drop}
 use lib.Seq.{length-take-le}
 use borrow.Rule.Slice.PartMut.{midOf, putMid}
 use Rattle.wire.specs.BigEndian.{over}

@@ -1,15 +1,14 @@
 -- The header and the DATA fields where they stand are those in front of any bytes.
 -- Assumes nothing.
-use mathlib.Core.Path.{_≡_, refl, sym, ap, _∙_}
-use mathlib.Core.List.{List, _++_, append-assoc}
+use mathlib.Core.Path.{_≡_, ap, _∙_}
+use mathlib.Core.List.{List, _++_}
 use Prim.Native.Nat.{ℕ, _+_, _^_, _<_}
-use native.Mathlib.Omega.{arith}
-use lib.ListN.{length, take, drop}
+use lib.ListN.{drop}
 use lib.Seq.{drop-drop}
 use Rattle.wire.specs.BigEndian.{bigEndian}
 use Rattle.wire.proofs.Exists.{Bytes, bytes-drop}
 use Rattle.chunk.specs.Layout.{HeaderFits, headerBytes}
-use Rattle.chunk.specs.Header.{HeaderFront, HeadedFits, headedBytes}
+use Rattle.chunk.specs.Header.{HeaderFront}
 use Rattle.chunk_payload_data.specs.Layout.{DataFits, dataValue}
 use Rattle.chunk_payload_data.specs.Data.{DataFront}
 use Rattle.replay_file.specs.File.{number}

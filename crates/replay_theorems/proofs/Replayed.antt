@@ -1,15 +1,15 @@
 -- A program that goes step by step writes the whole output, record for record, also through a window.
 -- Assumes nothing.
 use mathlib.Core.Path.{_≡_, refl, sym, ap, _∙_}
-use mathlib.Core.Bool.{Bool, true, false, cond}
-use mathlib.Core.List.{List, [], _∷_, _++_, map, append-assoc, append-nil}
+use mathlib.Core.Bool.{cond}
+use mathlib.Core.List.{List, _++_, map, append-assoc, append-nil}
 use Prim.Native.Nat.{ℕ, zero, suc, _+_, _%_, _^_, _<_, _≤_}
 use native.Mathlib.Nat.{mod-eq-of-lt}
 use native.Mathlib.Omega.{arith}
 use lib.ListN.{length, take, drop, length-drop}
 use lib.Seq.{take-append-le, drop-append-le}
 use Rattle.wire.proofs.Exists.{Bytes}
-use Rattle.counters.specs.Counted.{countedAs, countedAll, totals}
+use Rattle.counters.specs.Counted.{countedAs, countedAll}
 use Rattle.counters.specs.declared.Counters.{Counters}
 use Rattle.counters.specs.declared.Kind.the-variants as kinds
 use Rattle.counters.proofs.Runs.{run-counted}
@@ -17,10 +17,9 @@ use Rattle.payload_model.specs.Run.{starts}
 use Rattle.replay_file.specs.File as file
 use Rattle.replay_file.specs.File.{Start, start, partedAt, recordsOf, recordsMost, number, versioned}
 use Rattle.replay_file.proofs.Starts.{starts-shown}
-use Rattle.replay_push.specs.Decoded.{recorded}
 use Rattle.replay_lines.specs.Lines.{line, saidCut, totalLine, badVersion}
 use Rattle.replay_step.specs.Step.{State, stateOf, fresh, stepAt, stepped, chunkStep}
-use Rattle.replay_theorems.specs.Output.{Outcome, saidOf, countedOf, outcomes, lines, written, output}
+use Rattle.replay_theorems.specs.Output.{Outcome, countedOf, outcomes, lines, output}
 use Rattle.replay_theorems.specs.Program.{onward, run, programs, Shown, all, front}
 
 -- the rest of the lines from a number on, and the totals over what was counted before

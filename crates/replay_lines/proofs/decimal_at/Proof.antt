@@ -4,7 +4,7 @@ use mathlib.Core.Path.{_≡_, _∙_}
 use Prim.Native.Nat.{_≤_}
 use borrow.Author.Needs.{needs}
 use native.Mathlib.Omega.{arith}
-use lib.ListN.{length, take, length-take}
+use lib.ListN.{take}
 use lib.Seq.{length-take-le}
 use Rattle.replay_lines.specs.Lines.{decimal}
 use Rattle.replay_lines.proofs.Digits.{spells, few}

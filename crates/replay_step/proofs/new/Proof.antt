@@ -1,6 +1,5 @@
 -- `replay_step::new` meets its contract: nothing is held and nothing is counted.
 -- Assumes nothing.
-use borrow.Author.Needs.{needs}
 use Rattle.replay_step.proofs.new.Statement.{statement}
 use Rattle.replay_step.proofs.new.Tie as tie
 

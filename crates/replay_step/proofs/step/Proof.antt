@@ -1,6 +1,6 @@
 -- `replay_step::step` meets its contract: what stands at the front of the rest decides, and a chunk lies within it.
 -- Assumes nothing.
-use mathlib.Core.Path.{_≡_, _∙_}
+use mathlib.Core.Path.{_∙_}
 use borrow.Author.Needs.{needs}
 use native.Mathlib.Omega.{arith}
 use Rattle.replay_file.proofs.Starts.{starts-within}
