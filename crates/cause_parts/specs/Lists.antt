@@ -1,7 +1,9 @@
 -- The lent lists, and causes written into them.
 -- Assumes nothing.
 use Prim.Native.Nat.{ℕ}
+use mathlib.Core.Bool.{cond}
 use mathlib.Core.List.{List, map}
+use lib.Dec.{eqb}
 use lib.Seq.{sets as stores}
 use Rattle.cause_parts.specs.Causes.{Cause}
 
@@ -27,6 +29,10 @@ startsOf cs = map (λ (c : Cause). c .start) cs
 abbrev pub sizesOf : List Cause → List ℕ
 sizesOf cs = map (λ (c : Cause). c .size) cs
 
--- causes from an index on, each in the lists that have room for it
-unfoldable pub noted : ℕ → List Cause → Lists → Lists
-noted at cs l = lists (stores (l .codes) at (codesOf cs)) (stores (l .depths) at (depthsOf cs)) (stores (l .starts) at (startsOf cs)) (stores (l .sizes) at (sizesOf cs))
+-- 0 the codes, 1 the depths, 2 the starts, 3 the lengths
+abbrev pub fieldOf : ℕ → Cause → ℕ
+fieldOf told c = cond (eqb told 0) (c .code) (cond (eqb told 1) (c .depth) (cond (eqb told 2) (c .start) (c .size)))
+
+-- one of these of causes, in a list from an index on, as far as the list goes
+unfoldable pub noted : ℕ → ℕ → List Cause → List ℕ → List ℕ
+noted told at cs list = stores list at (map (fieldOf told) cs)

@@ -1,10 +1,10 @@
-// What reading the causes of an ERROR or ABORT chunk is made of: the cause at a place, the chunk in a cause's value, and a cause put into the lent lists.
+// What reading the causes of an ERROR or ABORT chunk is made of: the cause at a place, the chunk in a cause's value, and what is told of a cause put into a lent list.
 ghost use mathlib.Core.Path.{_≡_};
 ghost use Prim.Native.Nat.{_+_, _-_, _≤_};
 ghost use mathlib.Core.List.{[], _∷_};
-ghost use lib.ListN.{length, set, drop};
+ghost use lib.ListN.{length, drop};
 ghost use Rattle.cause_parts.specs.Causes.{cause};
-ghost use Rattle.cause_parts.specs.Lists.{lists, noted};
+ghost use Rattle.cause_parts.specs.Lists.{fieldOf, noted};
 ghost use Rattle.cause_parts.specs.Fronts.{CauseAt, ChunkAt};
 use chunk::chunk_header;
 
@@ -75,33 +75,41 @@ pub fn chunk_at(raw: &[u8], at: usize) -> Held
     }
 }
 
-// One number of a list, where the list has that place.
-fn put_at(list: &mut [u16], at: usize, x: u16)
-    ensures { λ _. ⌜ now (list .exit) ≡ set (now (list .entry)) at x ⌝ }
-{
-    if at < list.len() {
-        list[at] = x;
-    }
-}
+// What is told of a cause: its code, its depth, the start of its value, the value's length.
+pub const CODES: u8 = 0;
 
-// The cause at a place, as number n of each list that has room for it.
-pub fn note(
-    n: usize,
-    at: usize,
-    depth: u16,
-    h: CauseHeader,
-    codes: &mut [u16],
-    depths: &mut [u16],
-    starts: &mut [u16],
-    sizes: &mut [u16],
-)
+pub const DEPTHS: u8 = 1;
+
+pub const STARTS: u8 = 2;
+
+pub const SIZES: u8 = 3;
+
+// One of these, of the cause at a place.
+fn field(told: u8, at: usize, depth: u16, h: CauseHeader) -> u16
     requires { ⌜ at + 4 ≤ 65535 ⌝ }
     requires { ⌜ 4 ≤ h .size ⌝ }
-    ensures { λ _. ⌜ lists (now (codes .exit)) (now (depths .exit)) (now (starts .exit)) (now (sizes .exit)) ≡ noted n (cause (h .code) depth (at + 4) (h .size - 4) ∷ []) (lists (now (codes .entry)) (now (depths .entry)) (now (starts .entry)) (now (sizes .entry))) ⌝ }
+    ensures { λ r. ⌜ r ≡ fieldOf told (cause (h .code) depth (at + 4) (h .size - 4)) ⌝ }
 {
-    let start = at + 4;
-    put_at(codes, n, h.code);
-    put_at(depths, n, depth);
-    put_at(starts, n, start as u16);
-    put_at(sizes, n, h.size - 4);
+    if told == CODES {
+        return h.code;
+    }
+    if told == DEPTHS {
+        return depth;
+    }
+    if told == STARTS {
+        let start = at + 4;
+        return start as u16;
+    }
+    h.size - 4
+}
+
+// It goes into a list, as number n, where the list has that place.
+pub fn note(told: u8, n: usize, at: usize, depth: u16, h: CauseHeader, list: &mut [u16])
+    requires { ⌜ at + 4 ≤ 65535 ⌝ }
+    requires { ⌜ 4 ≤ h .size ⌝ }
+    ensures { λ _. ⌜ now (list .exit) ≡ noted told n (cause (h .code) depth (at + 4) (h .size - 4) ∷ []) (now (list .entry)) ⌝ }
+{
+    if n < list.len() {
+        list[n] = field(told, at, depth, h);
+    }
 }

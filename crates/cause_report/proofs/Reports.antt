@@ -12,7 +12,7 @@ use Rattle.wire.specs.Refusal.{none, refuse, Check, first, Told, says}
 use Rattle.chunk.specs.Header.{kindChecks}
 use Rattle.packet_parts.specs.Fronts.{frontHeader, frontSize}
 use Rattle.cause_parts.specs.Causes.{Reading, causes}
-use Rattle.cause_parts.specs.Lists.{Lists, noted}
+use Rattle.cause_parts.specs.Lists.{Lists, lists, noted}
 use Rattle.cause_parts.proofs.Noted.{noted-over}
 use Rattle.error_causes.specs.Counts.{counted}
 use Rattle.error_causes.proofs.Walk.{counted-refused, counted-all}
@@ -46,13 +46,15 @@ module _ (r : Reading) (l : Lists) where
     unfolding listed
     short-listed h = rw (all .0, ← (all .1), h)
 
-    pub all-listed : lacks n ≡ false → {told : Told ℕ} {l′ : Lists} → told ≡ counted 0 r → l′ ≡ noted 0 (r .causes) l → report told l′ ≡ listed r l
+    pub all-listed : lacks n ≡ false → {told : Told ℕ} {codes depths starts sizes : List ℕ} → told ≡ counted 0 r
+        → codes ≡ noted 0 0 (r .causes) (l .codes) → depths ≡ noted 1 0 (r .causes) (l .depths) → starts ≡ noted 2 0 (r .causes) (l .starts) → sizes ≡ noted 3 0 (r .causes) (l .sizes)
+        → report told (lists codes depths starts sizes) ≡ listed r l
     unfolding listed
-    all-listed h {told} {l′} t f =
+    all-listed h t c d s z =
         let m = all .1 in
         let w = room n (length (l .codes)) (length (l .depths)) (length (l .starts)) (length (l .sizes)) h in
         let h′ : lacks (length (r .causes)) ≡ false = rw m at h in
-        rw (t ∙ sym e, f, noted-over (r .causes) l (omega arith) (omega arith) (omega arith) (omega arith), all .0, h′, m)
+        rw (t ∙ sym e, c ∙ noted-over 0 (r .causes) (l .codes) (omega arith), d ∙ noted-over 1 (r .causes) (l .depths) (omega arith), s ∙ noted-over 2 (r .causes) (l .starts) (omega arith), z ∙ noted-over 3 (r .causes) (l .sizes) (omega arith), all .0, h′, m)
 
 -- ── the chunk's own header ──
 

@@ -6,6 +6,10 @@ ghost use Rattle.cause_parts.specs.Causes.{causes};
 ghost use Rattle.cause_parts.specs.Lists.{lists};
 ghost use Rattle.error_causes.specs.Counts.{countTold, counted};
 ghost use Rattle.cause_report.specs.Report.{lacking, report, listed, reported};
+use cause_parts::CODES;
+use cause_parts::DEPTHS;
+use cause_parts::SIZES;
+use cause_parts::STARTS;
 use chunk::chunk_header;
 use error_causes::Counted;
 
@@ -15,20 +19,8 @@ fn count(raw: &[u8]) -> Counted
     requires { ⌜ length (now raw) ≤ 65535 ⌝ }
     ensures { λ r. ⌜ countTold r ≡ counted 0 (causes 0 4 (drop 4 (now (raw .entry)))) ⌝ }
 {
-    let mut codes = [0u16; 0];
-    let mut depths = [0u16; 0];
-    let mut starts = [0u16; 0];
-    let mut sizes = [0u16; 0];
-    error_causes::read_causes(
-        raw,
-        4,
-        0,
-        0,
-        &mut codes,
-        &mut depths,
-        &mut starts,
-        &mut sizes,
-    )
+    let mut list = [0u16; 0];
+    error_causes::read_causes(raw, 4, 0, 0, CODES, &mut list)
 }
 
 // Whether a list has fewer than n places.
@@ -66,7 +58,10 @@ fn list(
             if lacks(n, codes.len(), depths.len(), starts.len(), sizes.len()) {
                 return Counted::Refused(10);
             }
-            error_causes::read_causes(raw, 4, 0, 0, codes, depths, starts, sizes)
+            error_causes::read_causes(raw, 4, 0, 0, CODES, codes);
+            error_causes::read_causes(raw, 4, 0, 0, DEPTHS, depths);
+            error_causes::read_causes(raw, 4, 0, 0, STARTS, starts);
+            error_causes::read_causes(raw, 4, 0, 0, SIZES, sizes)
         }
     }
 }

@@ -11,7 +11,7 @@ use Rattle.wire.specs.Refusal.{none, refuse, first, Told, says}
 use Rattle.wire.proofs.Reading.{refused, accepted}
 use Rattle.packet_parts.specs.Fronts.{leftChecks, rounded}
 use Rattle.cause_parts.specs.Causes.{Cause, cause, Reading, reading, onward, unless, causeCode, causeSize, causeValue, causeChecks, chunkCauses, causes, chunkHeld}
-use Rattle.cause_parts.specs.Lists.{Lists, noted}
+use Rattle.cause_parts.specs.Lists.{noted}
 use Rattle.cause_parts.specs.Facts.{causes-none, causes-step}
 use Rattle.cause_parts.specs.Fronts.{CauseThere, CausesThere}
 use Rattle.cause_parts.specs.declared.CauseHeader.{CauseHeader}
@@ -32,23 +32,23 @@ unfolding counted
 counted-all before r e = accepted 0 (before + length (r .causes)) (r .fault) e
 
 -- a reading that is known, counted and noted
-module _ (before : ℕ) (l₀ : Lists) {r : Reading} {cs : List Cause} {l : Lists} (listed : l ≡ noted before cs l₀) where
-  pub ends-refused : {k : ℕ} → r ≡ reading cs (refuse k) → (says (refuse k) 0 ≡ counted before r) × (l ≡ noted before (r .causes) l₀)
+module _ (told before : ℕ) (l₀ : List ℕ) {r : Reading} {cs : List Cause} {l : List ℕ} (listed : l ≡ noted told before cs l₀) where
+  pub ends-refused : {k : ℕ} → r ≡ reading cs (refuse k) → (says (refuse k) 0 ≡ counted before r) × (l ≡ noted told before (r .causes) l₀)
   unfolding counted
   ends-refused e = (rw e, rw e listed)
 
-  pub ends-all : {n : ℕ} → r ≡ reading cs none → n ≡ before + length cs → (says none n ≡ counted before r) × (l ≡ noted before (r .causes) l₀)
+  pub ends-all : {n : ℕ} → r ≡ reading cs none → n ≡ before + length cs → (says none n ≡ counted before r) × (l ≡ noted told before (r .causes) l₀)
   unfolding counted
   ends-all e m = (rw (e, m), rw e listed)
 
 -- ── the pass ──
 
 -- the answer and the lists are those of the causes from a place on
-abbrev pub Ended : List ℕ → ℕ → ℕ → ℕ → Lists → Told ℕ → Lists → Type 0
-Ended raw from depth before l₀ told l = let r = causes depth from (drop from raw) in (told ≡ counted before r) × (l ≡ noted before (r .causes) l₀)
+abbrev pub Ended : ℕ → List ℕ → ℕ → ℕ → ℕ → List ℕ → Told ℕ → List ℕ → Type 0
+Ended told raw from depth before l₀ says l = let r = causes depth from (drop from raw) in (says ≡ counted before r) × (l ≡ noted told before (r .causes) l₀)
 
 -- the causes from a place up to another are done, and stand in the lists
-pub record Walk (raw : List ℕ) (from depth before : ℕ) (l₀ : Lists) (at n : ℕ) (l : Lists) : Type 0 where
+pub record Walk (told : ℕ) (raw : List ℕ) (from depth before : ℕ) (l₀ : List ℕ) (at n : ℕ) (l : List ℕ) : Type 0 where
   pub placed : Placed (length raw) from depth before
   pub reach : at ≤ length raw + 3
   pub flat : depth ≤ at
@@ -58,10 +58,10 @@ pub record Walk (raw : List ℕ) (from depth before : ℕ) (l₀ : Lists) (at n 
   pub done : List Cause
   pub is : causes depth from (drop from raw) ≡ onward done (causes depth at (drop at raw))
   pub count : n ≡ before + length done
-  pub listed : l ≡ noted before done l₀
+  pub listed : l ≡ noted told before done l₀
 
-module _ (raw : List ℕ) (from depth before : ℕ) (l₀ : Lists) where
-  pub begin : Placed (length raw) from depth before → Walk raw from depth before l₀ from before l₀
+module _ (told : ℕ) (raw : List ℕ) (from depth before : ℕ) (l₀ : List ℕ) where
+  pub begin : Placed (length raw) from depth before → Walk told raw from depth before l₀ from before l₀
   begin p =
       record {
         placed = p;
@@ -73,14 +73,14 @@ module _ (raw : List ℕ) (from depth before : ℕ) (l₀ : Lists) where
         done = [];
         is = refl;
         count = omega arith;
-        listed = sym (noted-none before l₀);
+        listed = sym (noted-none told before l₀);
       }
 
-module _ {raw : List ℕ} {from depth before : ℕ} {l₀ : Lists} {at n : ℕ} {l : Lists} (w : Walk raw from depth before l₀ at n l) where
+module _ {told : ℕ} {raw : List ℕ} {from depth before : ℕ} {l₀ : List ℕ} {at n : ℕ} {l : List ℕ} (w : Walk told raw from depth before l₀ at n l) where
   -- all is read where no byte is left
-  pub finished : length raw ≤ at → Ended raw from depth before l₀ (says none n) l
+  pub finished : length raw ≤ at → Ended told raw from depth before l₀ (says none n) l
   finished h =
-      ends-all before l₀ {cs = w .done} (w .listed)
+      ends-all told before l₀ {cs = w .done} (w .listed)
       (w .is ∙ ap (onward (w .done)) (ap (causes depth at) (drop-of-length-le raw {i = at} h) ∙ causes-none depth at) ∙ ap (λ (z : List Cause). reading z none) (append-nil (w .done)))
       (w .count)
 
@@ -92,9 +92,9 @@ module _ {raw : List ℕ} {from depth before : ℕ} {l₀ : Lists} {at n : ℕ} 
     some-left = rw length-drop (omega arith)
 
     -- a cause that does not pass ends the reading
-    pub bad : {k : ℕ} → first (causeChecks bytes) ≡ refuse k → Ended raw from depth before l₀ (says (refuse k) 0) l
+    pub bad : {k : ℕ} → first (causeChecks bytes) ≡ refuse k → Ended told raw from depth before l₀ (says (refuse k) 0) l
     bad {k} e =
-        ends-refused before l₀ {cs = w .done} (w .listed)
+        ends-refused told before l₀ {cs = w .done} (w .listed)
         (w .is ∙ ap (onward (w .done)) (causes-step depth at bytes some-left ∙ rw e) ∙ ap (λ (z : List Cause). reading z (refuse k)) (append-nil (w .done)))
 
     module _ {x : CauseHeader} (t : CauseThere bytes x) where
@@ -136,14 +136,14 @@ module _ {raw : List ℕ} {from depth before : ℕ} {l₀ : Lists} {at n : ℕ} 
       assoc : (cs : List Cause) (r : Reading) → onward (w .done) (onward cs r) ≡ onward (w .done ++ cs) r
       assoc cs r = ap (λ (z : List Cause). reading z (r .fault)) (sym (append-assoc (w .done) cs (r .causes)))
 
-      module _ {l′ : Lists} (e : l′ ≡ noted n (here ∷ []) l) where
+      module _ {l′ : List ℕ} (e : l′ ≡ noted told n (here ∷ []) l) where
         -- the cause stands in the lists behind those that are done
-        with-here : l′ ≡ noted before (w .done ++ (here ∷ [])) l₀
-        with-here = e ∙ rw (w .listed, w .count, noted-more before (w .done) (here ∷ []) l₀)
+        with-here : l′ ≡ noted told before (w .done ++ (here ∷ [])) l₀
+        with-here = e ∙ rw (w .listed, w .count, noted-more told before (w .done) (here ∷ []) l₀)
 
         module _ {p : ℕ} (q : p ≡ rounded (x .size)) where
           -- a cause that holds nothing
-          pub alone : (x .code ≡ 6 → ⊥) → Walk raw from depth before l₀ (at + p) (n + 1) l′
+          pub alone : (x .code ≡ 6 → ⊥) → Walk told raw from depth before l₀ (at + p) (n + 1) l′
           unfolding rounded
           alone other =
               let within = rw length-drop at (t .within) in
@@ -160,22 +160,22 @@ module _ {raw : List ℕ} {from depth before : ℕ} {l₀ : Lists} {at n : ℕ} 
                 listed = with-here;
               }
 
-        module _ (six : x .code ≡ 6) {l″ : Lists} (f : l″ ≡ noted (n + 1) (inner .causes) l′) where
-          with-inner : l″ ≡ noted before more l₀
+        module _ (six : x .code ≡ 6) {l″ : List ℕ} (f : l″ ≡ noted told (n + 1) (inner .causes) l′) where
+          with-inner : l″ ≡ noted told before more l₀
           with-inner =
               let m : n + 1 ≡ before + length (w .done ++ (here ∷ [])) = rw (length-append, w .count) (omega arith) in
-              f ∙ rw (m, with-here, noted-more before (w .done ++ (here ∷ [])) (inner .causes) l₀)
+              f ∙ rw (m, with-here, noted-more told before (w .done ++ (here ∷ [])) (inner .causes) l₀)
 
           -- a fault inside ends the reading
           pub held-bad : {k : ℕ} → inner .fault ≡ refuse k
-              → Ended raw from depth before l₀ (says (refuse k) 0) l″
+              → Ended told raw from depth before l₀ (says (refuse k) 0) l″
           held-bad {k} g =
-              ends-refused before l₀ {cs = more} with-inner
+              ends-refused told before l₀ {cs = more} with-inner
               (w .is ∙ ap (onward (w .done)) (held-is six ∙ rw g) ∙ assoc (here ∷ []) (reading (inner .causes) (refuse k)))
 
           -- a cause and the causes that it holds
           pub held-all : inner .fault ≡ none → {m p : ℕ} → m ≡ n + 1 + length (inner .causes) → m ≤ at + x .size → p ≡ rounded (x .size)
-              → Walk raw from depth before l₀ (at + p) m l″
+              → Walk told raw from depth before l₀ (at + p) m l″
           unfolding rounded
           held-all g {m} {p} c room q =
               let within = rw length-drop at (t .within) in
@@ -194,16 +194,16 @@ module _ {raw : List ℕ} {from depth before : ℕ} {l₀ : Lists} {at n : ℕ} 
 
 -- ── the chunk in a value ──
 
-module _ (depth at before : ℕ) (value : List ℕ) (l : Lists) where
+module _ (told depth at before : ℕ) (value l : List ℕ) where
   -- the answer and the lists are those of the chunk
   abbrev pub Held : Told ℕ → Type 0
-  Held told = let r = chunkHeld depth at value in (told ≡ counted before r) × (l ≡ noted before (r .causes) l)
+  Held says = let r = chunkHeld depth at value in (says ≡ counted before r) × (l ≡ noted told before (r .causes) l)
 
   pub chunk-bad : {k : ℕ} → first (leftChecks value) ≡ refuse k → Held (says (refuse k) 0)
-  chunk-bad e = ends-refused before l {cs = []} (sym (noted-none before l)) (rw e)
+  chunk-bad e = ends-refused told before l {cs = []} (sym (noted-none told before l)) (rw e)
 
   pub chunk-without : (first (leftChecks value) ≡ none) × (chunkCauses value ≡ []) → Held (says none before)
-  chunk-without e = ends-all before l {cs = []} (sym (noted-none before l)) (rw (e .0, e .1, causes-none (depth + 1) (at + 4))) (omega arith)
+  chunk-without e = ends-all told before l {cs = []} (sym (noted-none told before l)) (rw (e .0, e .1, causes-none (depth + 1) (at + 4))) (omega arith)
 
 pub chunk-with : (raw : List ℕ) (depth at : ℕ) {end : ℕ} → CausesThere raw at end → causes (depth + 1) (at + 4) (drop (at + 4) (take end raw)) ≡ chunkHeld depth at (drop at raw)
 chunk-with raw depth at t = rw (t .passes, t .are)

@@ -3,7 +3,7 @@
 ghost use mathlib.Core.Path.{_≡_};
 ghost use lib.ListN.{length, drop};
 ghost use Rattle.cause_parts.specs.Causes.{causes, chunkHeld};
-ghost use Rattle.cause_parts.specs.Lists.{lists, noted};
+ghost use Rattle.cause_parts.specs.Lists.{noted};
 ghost use Rattle.error_causes.specs.Counts.{countTold, counted, CountRoom, Placed};
 use cause_parts::Front;
 use cause_parts::Held;
@@ -23,47 +23,35 @@ fn read_chunk(
     at: usize,
     depth: u16,
     count: usize,
-    codes: &mut [u16],
-    depths: &mut [u16],
-    starts: &mut [u16],
-    sizes: &mut [u16],
+    told: u8,
+    list: &mut [u16],
 ) -> Counted
     requires { ⌜ Placed (length (now raw)) at depth count ⌝ }
     ensures { λ r. ⌜ countTold r ≡ counted count (chunkHeld depth at (drop at (now (raw .entry)))) ⌝ }
-    ensures { λ _. ⌜ lists (now (codes .exit)) (now (depths .exit)) (now (starts .exit)) (now (sizes .exit)) ≡ noted count (chunkHeld depth at (drop at (now (raw .entry))) .causes) (lists (now (codes .entry)) (now (depths .entry)) (now (starts .entry)) (now (sizes .entry))) ⌝ }
+    ensures { λ _. ⌜ now (list .exit) ≡ noted told count (chunkHeld depth at (drop at (now (raw .entry))) .causes) (now (list .entry)) ⌝ }
     ensures { λ r. ⌜ CountRoom (length (now (raw .entry))) r ⌝ }
 {
     let held = cause_parts::chunk_at(raw, at);
     match held {
         Held::Refused(k) => Counted::Refused(k),
         Held::Nothing => Counted::Causes(count),
-        Held::Causes(end) => read_causes(
-            &raw[..end],
-            at + 4,
-            depth + 1,
-            count,
-            codes,
-            depths,
-            starts,
-            sizes,
-        ),
+        Held::Causes(end) => read_causes(&raw[..end], at + 4, depth + 1, count, told, list),
     }
 }
 
-// The causes from a place to the end of the lent bytes, each followed by what it holds; `count` are read already.
+// The causes from a place to the end of the lent bytes, each followed by what it holds; `count` are read already. One thing is told of each, in a list as far as it goes:
+// a list for each thing would make every call's frame twice as large, and a nesting is as deep as its chunk lets it be.
 pub fn read_causes(
     raw: &[u8],
     from: usize,
     depth: u16,
     count: usize,
-    codes: &mut [u16],
-    depths: &mut [u16],
-    starts: &mut [u16],
-    sizes: &mut [u16],
+    told: u8,
+    list: &mut [u16],
 ) -> Counted
     requires { ⌜ Placed (length (now raw)) from depth count ⌝ }
     ensures { λ r. ⌜ countTold r ≡ counted count (causes depth from (drop from (now (raw .entry)))) ⌝ }
-    ensures { λ _. ⌜ lists (now (codes .exit)) (now (depths .exit)) (now (starts .exit)) (now (sizes .exit)) ≡ noted count (causes depth from (drop from (now (raw .entry))) .causes) (lists (now (codes .entry)) (now (depths .entry)) (now (starts .entry)) (now (sizes .entry))) ⌝ }
+    ensures { λ _. ⌜ now (list .exit) ≡ noted told count (causes depth from (drop from (now (raw .entry))) .causes) (now (list .entry)) ⌝ }
     ensures { λ r. ⌜ CountRoom (length (now (raw .entry))) r ⌝ }
 {
     let mut at = from;
@@ -79,20 +67,11 @@ pub fn read_causes(
                 let size = h.size;
                 let start = at + 4;
                 let end = at + size as usize;
-                cause_parts::note(n, at, depth, h, codes, depths, starts, sizes);
+                cause_parts::note(told, n, at, depth, h, list);
                 n += 1;
                 at += packet_parts::padded_size(size);
                 if code == UNRECOGNIZED_CHUNK_TYPE {
-                    let held = read_chunk(
-                        &raw[..end],
-                        start,
-                        depth,
-                        n,
-                        codes,
-                        depths,
-                        starts,
-                        sizes,
-                    );
+                    let held = read_chunk(&raw[..end], start, depth, n, told, list);
                     match held {
                         Counted::Refused(k) => {
                             return Counted::Refused(k);

@@ -1,4 +1,4 @@
--- `cause_report::list` meets its contract: the dry pass decides, and where nothing is refused the second pass writes what it counted.
+-- `cause_report::list` meets its contract: the dry pass decides, and where nothing is refused a pass for each list writes what it counted.
 -- Assumes nothing.
 use mathlib.Core.Path.{sym, _∙_}
 use borrow.Author.Needs.{needs}
@@ -29,14 +29,19 @@ fault c =
 
 done : tie.Need-returns-3
 done c =
-    let r = c .before .before .before .before .before .before .before .before in
-    let e = r .before .before .before .before .before in
+    let fourth = c .before .before in
+    let third = fourth .before .before .before .before in
+    let second = third .before .before .before .before in
+    let first = second .before .before .before .before in
+    let e = first .before .before in
     let m = e .before .before .before in
     let n = m .before .before in
-    all-listed (read n) (given n) (rw (m .all2 .given .1) at (n .count .ensures)) (sym (e .before .lacks .ensures) ∙ e .if1 .left) (r .read-causes .ensures .0) (r .read-causes .ensures .1 .0)
+    all-listed (read n) (given n) (rw (m .all2 .given .1) at (n .count .ensures)) (sym (e .before .lacks .ensures) ∙ e .if1 .left)
+    (fourth .read-causes4 .ensures .0) (first .read-causes .ensures .1 .0) (second .read-causes2 .ensures .1 .0) (third .read-causes3 .ensures .1 .0) (fourth .read-causes4 .ensures .1 .0)
 
 pub list-spec : {M : Type 1} → statement M
 list-spec =
     tie.close
-    (tie.spec (λ c κs. search needs) (λ c. search needs) (λ c. search needs) (λ c κs. search needs) short (λ c κs. search needs) fault
+    (tie.spec (λ c κs. search needs) (λ c. search needs) (λ c. search needs) (λ c κs. search needs) short
+    (λ c κs. search needs) (λ c κs. search needs) (λ c κs. search needs) (λ c κs. search needs) fault
     (λ c. search needs) (λ c. search needs) (λ c. search needs) (λ c. search needs) done)
