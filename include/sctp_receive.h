@@ -156,9 +156,9 @@ int32_t sctp_receive_forward_tsn_marshal_to(uint8_t *out, size_t out_len, uint32
 /* ---- ERROR and ABORT: why the peer reports an error or gives up ----
  * Each cause's code, its depth (0 for the chunk's own causes; under code 6 a cause may hold a chunk, and the causes of an ERROR or ABORT
  * chunk in there are one deeper), where its value starts in `raw`, and the value's length, to the front of four lists, outer before inner;
- * `*n` is how many causes there are, and the rest of each list stays. A chunk has at most 16,382 causes, at most 8,190 deep, and each depth
- * is a call of its own, which takes 144 bytes of stack on x86-64, so the deepest 1.2 MB. Refuse 1, 2, 3, then the first fault in reading order: 16, or 1 or 2 of
- * an enclosed chunk; and 10 where nothing else is wrong and a list is too short. */
+ * `*n` is how many causes there are, and the rest of each list stays. A chunk has at most 16,382 causes, at most 8,190 deep. Each depth is
+ * a call of its own, of 144 bytes of stack on x86-64: the deepest chunk takes 1.2 MB. Refuse 1, 2, 3, then the first fault in reading
+ * order: 16, or 1 or 2 of an enclosed chunk; and 10 where nothing else is wrong and a list is too short. */
 
 int32_t sctp_receive_error_unmarshal(const uint8_t *raw, size_t raw_len, uint16_t *codes, size_t codes_len,
                                      uint16_t *depths, size_t depths_len, uint16_t *starts, size_t starts_len,
