@@ -85,7 +85,14 @@ impl ReassemblyQueue {
     pub fn applicable_forward_tsn_for_ordered_bounded(&self, last_ssn: u16, new_cumulative_tsn: u32, peer_last_tsn: u32) -> Option<u16> {
         let (mut found, mut ssn) = (false, 0);
         let skip = (last_ssn, new_cumulative_tsn, peer_last_tsn);
-        let result = ffi::reassembly_queue_applicable_forward_tsn_for_ordered_bounded(&self.numbers, &self.table, &self.pool, skip, &mut found, &mut ssn);
+        let result = ffi::reassembly_queue_applicable_forward_tsn_for_ordered_bounded(
+            &self.numbers,
+            &self.table,
+            &self.pool,
+            skip,
+            &mut found,
+            &mut ssn,
+        );
         never_refused(result);
         found.then_some(ssn)
     }

@@ -126,7 +126,8 @@ fn reassembly_calls() {
         assert_eq!(ffi::reassembly_queue_forward_tsn_for_ordered_bounded(&mut q, &mut table, &mut pool, (5, 5)), 0);
         let mut ssn = 9;
         found = true;
-        let applicable = ffi::reassembly_queue_applicable_forward_tsn_for_ordered_bounded(&q, &table, &pool, (5, 5, 5), &mut found, &mut ssn);
+        let applicable =
+            ffi::reassembly_queue_applicable_forward_tsn_for_ordered_bounded(&q, &table, &pool, (5, 5, 5), &mut found, &mut ssn);
         assert_eq!((applicable, found, ssn), (0, false, 0));
         assert_eq!(ffi::forward_tsn::apply_to_stream(&mut q, &mut table, &mut pool, (4, 5), &[0, 0, 0, 9]), 0);
         assert_eq!(ffi::reassembly_queue_get_num_bytes(&q, &table, &pool, &mut n), 0);
