@@ -54,11 +54,12 @@ extern "C" {
 #define SCTP_RECEIVE_NO_DATA 15         /* DATA without data: length 16, or nothing to write */
 #define SCTP_RECEIVE_BAD_CAUSE 16       /* 1 to 3 bytes where a cause should start, or its length below 4 or past its chunk */
 #define SCTP_RECEIVE_OPPOSITE_TSN 17    /* a TSN exactly 2^31 from the cumulative one: the sign of a corrupt peer */
+#define SCTP_RECEIVE_IN_FLIGHT 18       /* in-flight queue: the TSN is held already */
 
 /* ---- sizes ---- */
 
-#define SCTP_RECEIVE_TSNS 1024           /* TSNs that a TSN queue holds */
-#define SCTP_RECEIVE_TSN_WORDS 4096      /* words of its table */
+#define SCTP_RECEIVE_TSNS 1024           /* TSNs that a TSN queue holds, and an in-flight queue */
+#define SCTP_RECEIVE_TSN_WORDS 4096      /* words of the table of either */
 #define SCTP_RECEIVE_LOG 64              /* duplicates that it logs */
 #define SCTP_RECEIVE_FRAGMENTS 512       /* fragments that a reassembly queue holds */
 #define SCTP_RECEIVE_FRAGMENT_WORDS 2048 /* words of its table */
@@ -266,6 +267,63 @@ int32_t sctp_receive_payload_queue_is_empty(size_t count, size_t n_bytes, size_t
 int32_t sctp_receive_payload_queue_contains_stream(size_t count, size_t n_bytes, size_t dups,
                                                    const uint32_t dup_tsn[SCTP_RECEIVE_LOG],
                                                    const uint32_t table[SCTP_RECEIVE_TSN_WORDS], uint16_t stream, bool *is);
+
+/* ---- the sender's in-flight queue: which chunks were sent, what became of each, and how many of their bytes are not released ----
+ * Its numbers: TSNs held, the sum of their data lengths that are not released; the table; and for calls that need them the numbers of
+ * the records' messages, one beside each record. Every call refuses 0. */
+
+/* A fresh queue. The table and the messages' numbers may hold anything. */
+void sctp_receive_inflight_queue_new(size_t *count, size_t *n_bytes);
+
+/* Stores a chunk of `size` data bytes by its TSN, without a mark, and its message's number. Refuses 18 where the TSN is held, then 8
+ * where 1,024 are held. */
+int32_t sctp_receive_inflight_queue_push_no_check(size_t *count, size_t *n_bytes, uint32_t table[SCTP_RECEIVE_TSN_WORDS],
+                                                  uint64_t messages[SCTP_RECEIVE_TSNS],
+                                                  bool unordered, bool beginning_fragment, bool ending_fragment,
+                                                  bool immediate_sack, uint32_t tsn, uint16_t stream_identifier,
+                                                  uint16_t stream_sequence_number, uint32_t payload_type, uint16_t size,
+                                                  uint64_t message);
+
+/* Acknowledges the chunk with this TSN: it is not to be sent again, and as many bytes are released as it still held; 0 where none is
+ * held with this TSN. */
+int32_t sctp_receive_inflight_queue_mark_as_acked(size_t *count, size_t *n_bytes, uint32_t table[SCTP_RECEIVE_TSN_WORDS],
+                                                  uint32_t tsn, size_t *released);
+
+/* Marks every chunk to be sent again that is neither acknowledged nor abandoned. */
+int32_t sctp_receive_inflight_queue_mark_all_to_retransmit(size_t *count, size_t *n_bytes,
+                                                           uint32_t table[SCTP_RECEIVE_TSN_WORDS]);
+
+/* Abandons every chunk of this message: they are not to be sent again, and as many bytes are released as they still held. */
+int32_t sctp_receive_inflight_queue_abandon_message(size_t *count, size_t *n_bytes, uint32_t table[SCTP_RECEIVE_TSN_WORDS],
+                                                    const uint64_t messages[SCTP_RECEIVE_TSNS], uint64_t message,
+                                                    size_t *released);
+
+/* Removes and gives the first chunk, if its TSN is `wanted`; else nothing is found, and nothing changes. `*size` is what is not
+ * released of its data. */
+int32_t sctp_receive_inflight_queue_pop(size_t *count, size_t *n_bytes, uint32_t table[SCTP_RECEIVE_TSN_WORDS],
+                                        uint64_t messages[SCTP_RECEIVE_TSNS], uint32_t wanted, bool *found,
+                                        bool *unordered, bool *beginning_fragment, bool *ending_fragment, bool *immediate_sack,
+                                        uint32_t *tsn, uint16_t *stream_identifier, uint16_t *stream_sequence_number,
+                                        uint32_t *payload_type, uint16_t *size, bool *acked, bool *abandoned, bool *retransmit,
+                                        uint64_t *message_id);
+
+/* Drops every TSN at or before this one. */
+int32_t sctp_receive_inflight_queue_pop_up_to(size_t *count, size_t *n_bytes, uint32_t table[SCTP_RECEIVE_TSN_WORDS],
+                                              uint64_t messages[SCTP_RECEIVE_TSNS], uint32_t tsn);
+
+/* The chunk that is held with this TSN, if there is one. */
+int32_t sctp_receive_inflight_queue_get(size_t count, size_t n_bytes, const uint32_t table[SCTP_RECEIVE_TSN_WORDS],
+                                        const uint64_t messages[SCTP_RECEIVE_TSNS], uint32_t wanted, bool *found,
+                                        bool *unordered, bool *beginning_fragment, bool *ending_fragment, bool *immediate_sack,
+                                        uint32_t *tsn, uint16_t *stream_identifier, uint16_t *stream_sequence_number,
+                                        uint32_t *payload_type, uint16_t *size, bool *acked, bool *abandoned, bool *retransmit,
+                                        uint64_t *message_id);
+
+/* The sum of the lengths that are not released; how many TSNs are held; whether none is. */
+int32_t sctp_receive_inflight_queue_get_num_bytes(size_t count, size_t n_bytes, const uint32_t table[SCTP_RECEIVE_TSN_WORDS],
+                                                  size_t *n);
+int32_t sctp_receive_inflight_queue_len(size_t count, size_t n_bytes, const uint32_t table[SCTP_RECEIVE_TSN_WORDS], size_t *n);
+int32_t sctp_receive_inflight_queue_is_empty(size_t count, size_t n_bytes, const uint32_t table[SCTP_RECEIVE_TSN_WORDS], bool *is);
 
 /* ---- reassembly of one stream ----
  * Its numbers: the stream, the expected SSN, the maximum message size; fragments of finished unordered messages, loose unordered

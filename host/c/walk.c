@@ -389,6 +389,45 @@ static void compare(void)
     same("an SSN and itself", sctp_receive_ssn_compare(65535, 65535), SCTP_RECEIVE_SAME);
 }
 
+/* The sender's side: two chunks of one message and one of another are sent; one is acknowledged, the other message abandoned, the rest sent again. */
+static void in_flight(void)
+{
+    static uint32_t table[SCTP_RECEIVE_TSN_WORDS];
+    static uint64_t messages[SCTP_RECEIVE_TSNS];
+    size_t count, n_bytes, n = 7;
+    bool found, u, b, e, i, acked, abandoned, retransmit;
+    uint32_t tsn, ppi;
+    uint16_t stream, ssn, size;
+    uint64_t message;
+    sctp_receive_inflight_queue_new(&count, &n_bytes);
+    for (uint32_t k = 0; k < 3; k++)
+        same("sent", sctp_receive_inflight_queue_push_no_check(&count, &n_bytes, table, messages, false, true, true, false, first_tsn + k, STREAM,
+                                                               (uint16_t)k, SCTP_RECEIVE_BINARY, (uint16_t)(100 + k),
+                                                               k == 1 ? UINT64_MAX : 5), SCTP_RECEIVE_OK);
+    same("a TSN in flight", sctp_receive_inflight_queue_push_no_check(&count, &n_bytes, table, messages, false, true, true, false, first_tsn, STREAM, 9,
+                                                                      SCTP_RECEIVE_BINARY, 9, 9), SCTP_RECEIVE_IN_FLIGHT);
+    same("acknowledged", sctp_receive_inflight_queue_mark_as_acked(&count, &n_bytes, table, first_tsn, &n), SCTP_RECEIVE_OK);
+    same("its bytes are released", (long long)n, 100);
+    same("acknowledged again", sctp_receive_inflight_queue_mark_as_acked(&count, &n_bytes, table, first_tsn, &n), SCTP_RECEIVE_OK);
+    same("and none are", (long long)n, 0);
+    same("abandoned", sctp_receive_inflight_queue_abandon_message(&count, &n_bytes, table, messages, UINT64_MAX, &n), SCTP_RECEIVE_OK);
+    same("its bytes are released", (long long)n, 101);
+    same("to be sent again", sctp_receive_inflight_queue_mark_all_to_retransmit(&count, &n_bytes, table), SCTP_RECEIVE_OK);
+    same("the last chunk", sctp_receive_inflight_queue_get(count, n_bytes, table, messages, first_tsn + 2, &found, &u, &b, &e, &i, &tsn, &stream, &ssn,
+                                                           &ppi, &size, &acked, &abandoned, &retransmit, &message), SCTP_RECEIVE_OK);
+    same("is marked", found && !acked && !abandoned && retransmit && message == 5 && size == 102 && ssn == 2, true);
+    same("the first chunk", sctp_receive_inflight_queue_pop(&count, &n_bytes, table, messages, first_tsn, &found, &u, &b, &e, &i, &tsn, &stream, &ssn,
+                                                            &ppi, &size, &acked, &abandoned, &retransmit, &message), SCTP_RECEIVE_OK);
+    same("was acknowledged", found && acked && !retransmit && size == 0 && tsn == first_tsn, true);
+    same("the rest", sctp_receive_inflight_queue_get_num_bytes(count, n_bytes, table, &n), SCTP_RECEIVE_OK);
+    same("of the bytes", (long long)n, 102);
+    same("all up to the second", sctp_receive_inflight_queue_pop_up_to(&count, &n_bytes, table, messages, first_tsn + 1), SCTP_RECEIVE_OK);
+    same("one is left", sctp_receive_inflight_queue_len(count, n_bytes, table, &n) == SCTP_RECEIVE_OK && n == 1, true);
+    same("not none", sctp_receive_inflight_queue_is_empty(count, n_bytes, table, &found) == SCTP_RECEIVE_OK && !found, true);
+    same("a byte more than is held", sctp_receive_inflight_queue_len(count, n_bytes + 1, table, &n), SCTP_RECEIVE_UNSOUND);
+    printf("in flight: %lu bytes of TSN %lu, message 5\n", (unsigned long)n_bytes, (unsigned long)(first_tsn + 2) & 0xFFFFFFFFul);
+}
+
 /* What must be refused, and leaves all as it was. */
 static void refused(void)
 {
@@ -443,6 +482,7 @@ int main(void)
     walk_packet();
     read_causes();
     compare();
+    in_flight();
     refused();
     printf("%u checks, %u wrong\n", checks, wrong);
     return wrong == 0 ? 0 : 1;

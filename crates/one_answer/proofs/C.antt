@@ -64,7 +64,7 @@ done-refusal (negsuc k) = go (eqb k 0) refl
     go true e = rw e
     go false e = rw e
 
-done-one : (r s : ℤ) → Word r → Word s → done r ≡ done s → r ≡ s
+pub done-one : (r s : ℤ) → Word r → Word s → done r ≡ done s → r ≡ s
 done-one r s f g e = result-one r s f g (sym (done-refusal r) ∙ ap (λ (t : Told Bool). t .refusal) e ∙ done-refusal s)
 
 -- ── beside it the TSN queue: its counts and log, and the words of its table ──

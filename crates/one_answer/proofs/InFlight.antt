@@ -8,13 +8,11 @@ use Prim.Native.Nat.{ℕ}
 use Rattle.wire.specs.Refusal.{Told}
 use Rattle.chunk_payload_data.specs.Data.{dataHeld}
 use Rattle.chunk_payload_data.specs.declared.ChunkPayloadData.{ChunkPayloadData}
-use Rattle.table.proofs.Columns.{injective}
-use Rattle.payload_model.specs.Limits.{tsnsMost}
 use Rattle.payload_model.specs.Queue.{rowOf}
 use Rattle.payload_model.specs.Answers.{flagTold, numberTold, queuedFound, doneTold}
 use Rattle.payload_model.specs.declared.Flag.{Flag}
 use Rattle.payload_model.specs.declared.Number.{Number}
-use Rattle.inflight_model.specs.Queue.{Queue, Given, After, after, pushedNoCheck, markedAcked, markedAll, abandoned, popped, poppedUpTo, got, counted, isEmpty, numBytes}
+use Rattle.inflight_model.specs.Queue.{Given, After, after, pushedNoCheck, markedAcked, markedAll, abandoned, popped, poppedUpTo, got, counted, isEmpty, numBytes}
 use Rattle.inflight_model.specs.Answers.{sentGiven, takenTold}
 use Rattle.inflight_model.specs.declared.TakenSent.{TakenSent}
 use Rattle.inflight_model.specs.declared.TakenSent.the-variants as chunks
@@ -25,7 +23,7 @@ use Rattle.inflight_queue.specs.declared.Released.{Released}
 use Rattle.inflight_queue.specs.declared.Popped.{Popped}
 use Rattle.one_answer.proofs.Only.{Only, only, named-one, both}
 use Rattle.one_answer.proofs.Told.{back, chunkHeld, flag-one, number-one, done-one}
-use Rattle.one_answer.proofs.States.{TsnWords}
+use Rattle.one_answer.proofs.States.{TsnWords, flight-struct-one, flight-words-one, flight-numbers-one}
 use Rattle.one_answer.proofs.Queue.{Left}
 
 -- ── what the answer that gives a record tells can be taken back ──
@@ -54,18 +52,6 @@ pub record LeftBoth (A : Type 0) : Type 0 where
   pub table : List ℕ
   pub messages : List ℕ
 
--- ── a state has one struct, one table of words and one list of numbers ──
-
-module _ (q p : InFlightQueue) (ws vs ms ns : List ℕ) (e : queueOf q ws ms ≡ queueOf p vs ns) where
-  struct-one : q ≡ p
-  struct-one = ap (λ (s : Queue). record { count = s .count; «n_bytes» = s .bytes }) e
-
-  words-one : TsnWords ws → TsnWords vs → ws ≡ vs
-  words-one h k = injective tsnsMost ws vs h k (ap (λ (s : Queue). s .rows) e)
-
-  numbers-one : ms ≡ ns
-  numbers-one = ap (λ (s : Queue). s .messages) e
-
 -- ── a struct of an answer and a queue, beside the table, and beside table and numbers ──
 
 module _ {A B S : Type 0} (told : A → Told B) (told-one : (b : Told B) → Only (λ (r : A). told r ≡ b))
@@ -76,20 +62,20 @@ module _ {A B S : Type 0} (told : A → Told B) (told-one : (b : Told B) → Onl
   gives-one : (r s : S) (ws vs ms ns : List ℕ) → outcome r ws ms ≡ outcome s vs ns → r ≡ s
   gives-one r s ws vs ms ns e =
       same r s (told-one (told (answer s)) (answer r) (answer s) (ap (λ (x : After B). x .told) e) refl)
-      (struct-one (queue r) (queue s) ws vs ms ns (ap (λ (x : After B). x .queue) e))
+      (flight-struct-one (queue r) (queue s) ws vs ms ns (ap (λ (x : After B). x .queue) e))
 
   left-one : (ms : List ℕ) {b : After B} → Only (λ (o : Left S). TsnWords (o .table) × (outcome (o .gives) (o .table) ms ≡ b))
   left-one ms r s p q =
       let e = p .1 ∙ sym (q .1) in
       both (λ (g : S) (ws : List ℕ). record { gives = g; table = ws }) (gives-one (r .gives) (s .gives) (r .table) (s .table) ms ms e)
-      (words-one (queue (r .gives)) (queue (s .gives)) (r .table) (s .table) ms ms (ap (λ (x : After B). x .queue) e) (p .0) (q .0))
+      (flight-words-one (queue (r .gives)) (queue (s .gives)) (r .table) (s .table) ms ms (ap (λ (x : After B). x .queue) e) (p .0) (q .0))
 
   left-both-one : {b : After B} → Only (λ (o : LeftBoth S). TsnWords (o .table) × (outcome (o .gives) (o .table) (o .messages) ≡ b))
   left-both-one r s p q =
       let e : outcome (r .gives) (r .table) (r .messages) ≡ outcome (s .gives) (s .table) (s .messages) = p .1 ∙ sym (q .1) in
       let l = ap (λ (x : After B). x .queue) e in
-      let w = words-one (queue (r .gives)) (queue (s .gives)) (r .table) (s .table) (r .messages) (s .messages) l (p .0) (q .0) in
-      let n = numbers-one (queue (r .gives)) (queue (s .gives)) (r .table) (s .table) (r .messages) (s .messages) l in
+      let w = flight-words-one (queue (r .gives)) (queue (s .gives)) (r .table) (s .table) (r .messages) (s .messages) l (p .0) (q .0) in
+      let n = flight-numbers-one (queue (r .gives)) (queue (s .gives)) (r .table) (s .table) (r .messages) (s .messages) l in
       both (λ (g : S) (l : List ℕ × List ℕ). record { gives = g; table = l .0; messages = l .1 })
       (gives-one (r .gives) (s .gives) (r .table) (s .table) (r .messages) (s .messages) e) (both (λ (ws ms : List ℕ). (ws, ms)) w n)
 

@@ -14,3 +14,4 @@ pub mod CCodecs
 pub mod CPackets
 pub mod CQueues
 pub mod CCauses
+pub mod CInFlight

@@ -9,6 +9,9 @@ use Rattle.payload_model.specs.Limits.{tsnsMost}
 use Rattle.payload_model.specs.Queue.{Queue}
 use Rattle.payload_queue.specs.Queue.{queueOf}
 use Rattle.payload_queue.specs.declared.PayloadQueue.{PayloadQueue}
+use Rattle.inflight_model.specs.Queue as flight-state
+use Rattle.inflight_queue.specs.Queue as flight
+use Rattle.inflight_queue.specs.declared.InFlightQueue.{InFlightQueue}
 use Rattle.reassembly_state.specs.Limits.{fragsMost}
 use Rattle.reassembly_state.specs.State.{State}
 use Rattle.reassembly_queue.specs.Queue.{structOf, stateOf}
@@ -26,6 +29,18 @@ module _ (q p : PayloadQueue) (ws vs : List ℕ) (e : queueOf q ws ≡ queueOf p
 
   pub tsn-words-one : TsnWords ws → TsnWords vs → ws ≡ vs
   tsn-words-one h k = injective tsnsMost ws vs h k (ap (λ (s : Queue). s .rows) e)
+
+-- ── the in-flight queue: the table is of the same words ──
+
+module _ (q p : InFlightQueue) (ws vs ms ns : List ℕ) (e : flight.queueOf q ws ms ≡ flight.queueOf p vs ns) where
+  pub flight-struct-one : q ≡ p
+  flight-struct-one = ap (λ (s : flight-state.Queue). record { count = s .count; «n_bytes» = s .bytes }) e
+
+  pub flight-words-one : TsnWords ws → TsnWords vs → ws ≡ vs
+  flight-words-one h k = injective tsnsMost ws vs h k (ap (λ (s : flight-state.Queue). s .rows) e)
+
+  pub flight-numbers-one : ms ≡ ns
+  flight-numbers-one = ap (λ (s : flight-state.Queue). s .messages) e
 
 -- ── the reassembly queue ──
 

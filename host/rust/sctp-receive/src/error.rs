@@ -43,6 +43,8 @@ pub enum Error {
     ErrorCauseTooSmall = 16,
     /// 17: a TSN exactly 2^31 from the cumulative one, the sign of a corrupt peer.
     OppositeTsn = 17,
+    /// 18: the TSN is in flight already.
+    InFlight = 18,
 }
 
 impl Error {
@@ -66,6 +68,7 @@ impl Error {
         Error::NoUserData,
         Error::ErrorCauseTooSmall,
         Error::OppositeTsn,
+        Error::InFlight,
     ];
 
     /// What a result of the library says: -1 is `Ok`. It is proved to have no other numbers than the documents'.
@@ -101,6 +104,7 @@ impl fmt::Display for Error {
             Error::NoUserData => "DATA without data",
             Error::ErrorCauseTooSmall => "a cause shorter than 4 bytes, or longer than its chunk",
             Error::OppositeTsn => "the TSN is half way round from the cumulative one",
+            Error::InFlight => "the TSN is in flight already",
         })
     }
 }

@@ -10,7 +10,7 @@ pub(crate) mod forward_tsn;
 pub(crate) mod hand;
 pub(crate) mod packet;
 
-/// TSNs that a [`PayloadQueue`](crate::PayloadQueue) holds.
+/// TSNs that a [`PayloadQueue`](crate::PayloadQueue) holds, and an [`InFlightQueue`](crate::InFlightQueue).
 pub const TSNS: usize = 1024;
 /// Duplicates that it logs.
 pub const LOG: usize = 64;
@@ -70,6 +70,33 @@ unsafe extern "C" {
         table: &[u32; TSN_WORDS], is: &mut bool) -> i32;
     pub(crate) safe fn sctp_receive_payload_queue_contains_stream(count: usize, n_bytes: usize, dups: usize, dup_tsn: &[u32; LOG],
         table: &[u32; TSN_WORDS], stream: u16, is: &mut bool) -> i32;
+    pub(crate) safe fn sctp_receive_inflight_queue_new(count: &mut usize, n_bytes: &mut usize);
+    pub(crate) safe fn sctp_receive_inflight_queue_push_no_check(count: &mut usize, n_bytes: &mut usize, table: &mut [u32; TSN_WORDS],
+        messages: &mut [u64; TSNS], unordered: bool, beginning_fragment: bool, ending_fragment: bool, immediate_sack: bool, tsn: u32,
+        stream_identifier: u16, stream_sequence_number: u16, payload_type: u32, size: u16, message: u64) -> i32;
+    pub(crate) safe fn sctp_receive_inflight_queue_mark_as_acked(count: &mut usize, n_bytes: &mut usize, table: &mut [u32; TSN_WORDS],
+        tsn: u32, released: &mut usize) -> i32;
+    pub(crate) safe fn sctp_receive_inflight_queue_mark_all_to_retransmit(count: &mut usize, n_bytes: &mut usize,
+        table: &mut [u32; TSN_WORDS]) -> i32;
+    pub(crate) safe fn sctp_receive_inflight_queue_abandon_message(count: &mut usize, n_bytes: &mut usize,
+        table: &mut [u32; TSN_WORDS], messages: &[u64; TSNS], message: u64, released: &mut usize) -> i32;
+    pub(crate) safe fn sctp_receive_inflight_queue_pop(count: &mut usize, n_bytes: &mut usize, table: &mut [u32; TSN_WORDS],
+        messages: &mut [u64; TSNS], wanted: u32, found: &mut bool, unordered: &mut bool, beginning_fragment: &mut bool,
+        ending_fragment: &mut bool, immediate_sack: &mut bool, tsn: &mut u32, stream_identifier: &mut u16,
+        stream_sequence_number: &mut u16, payload_type: &mut u32, size: &mut u16, acked: &mut bool, abandoned: &mut bool,
+        retransmit: &mut bool, message_id: &mut u64) -> i32;
+    pub(crate) safe fn sctp_receive_inflight_queue_pop_up_to(count: &mut usize, n_bytes: &mut usize, table: &mut [u32; TSN_WORDS],
+        messages: &mut [u64; TSNS], tsn: u32) -> i32;
+    pub(crate) safe fn sctp_receive_inflight_queue_get(count: usize, n_bytes: usize, table: &[u32; TSN_WORDS],
+        messages: &[u64; TSNS], wanted: u32, found: &mut bool, unordered: &mut bool, beginning_fragment: &mut bool,
+        ending_fragment: &mut bool, immediate_sack: &mut bool, tsn: &mut u32, stream_identifier: &mut u16,
+        stream_sequence_number: &mut u16, payload_type: &mut u32, size: &mut u16, acked: &mut bool, abandoned: &mut bool,
+        retransmit: &mut bool, message_id: &mut u64) -> i32;
+    pub(crate) safe fn sctp_receive_inflight_queue_get_num_bytes(count: usize, n_bytes: usize, table: &[u32; TSN_WORDS],
+        n: &mut usize) -> i32;
+    pub(crate) safe fn sctp_receive_inflight_queue_len(count: usize, n_bytes: usize, table: &[u32; TSN_WORDS], n: &mut usize) -> i32;
+    pub(crate) safe fn sctp_receive_inflight_queue_is_empty(count: usize, n_bytes: usize, table: &[u32; TSN_WORDS],
+        is: &mut bool) -> i32;
     pub(crate) safe fn sctp_receive_reassembly_queue_new(stream: u16, most: u32, si: &mut u16, next_ssn: &mut u16,
         max_message_size: &mut u32, finished: &mut usize, unordered: &mut usize, ordered: &mut usize, n_bytes: &mut usize);
 

@@ -1,5 +1,5 @@
 //! The receive part of SCTP for Rust programs, over the proved library `libsctp_receive.a`: packets with their checksum, DATA, SACK and FORWARD TSN chunks, the causes of ERROR and ABORT, the
-//! TSN queue with its gap report, reassembly of one stream, and the message in hand. Names are those of sctp-proto. Each call is proved, in Rattle, to answer
+//! TSN queue with its gap report, the sender's in-flight queue, reassembly of one stream, and the message in hand. Names are those of sctp-proto. Each call is proved, in Rattle, to answer
 //! and to leave exactly what documents 01 and 02 say; this crate owns the tables, lends them to the library, and adds no rule of its own.
 //!
 //! No allocation, no dependency, no `std`; all `unsafe` stands in one private module, `ffi`.
@@ -43,6 +43,7 @@ mod chunk;
 mod error;
 #[allow(unsafe_code)]
 mod ffi;
+mod inflight_queue;
 mod packet;
 mod payload_queue;
 mod reassembly_queue;
@@ -57,6 +58,7 @@ pub use chunk::{
 };
 pub use error::Error;
 pub use ffi::{BYTES, FRAGMENTS, LOG, TSNS};
+pub use inflight_queue::{InFlightQueue, Sent};
 pub use packet::{CommonHeader, PacketChunks, crc32c};
 pub use payload_queue::{Duplicates, PayloadQueue, Queued};
 pub use reassembly_queue::{Chunks, ReassemblyQueue};

@@ -101,7 +101,9 @@ fn rattle() -> Declarations {
     for file in fs::read_dir(repository().join("crates/sctp_receive/src")).unwrap() {
         let source = text(&format!("crates/sctp_receive/src/{}", file.unwrap().file_name().into_string().unwrap()));
         let mut sizes = Sizes::new();
-        for (of, below) in [("payload_queue", "payload_model"), ("reassembly_queue", "reassembly_state")] {
+        for (of, below) in
+            [("payload_queue", "payload_model"), ("inflight_queue", "payload_model"), ("reassembly_queue", "reassembly_state")]
+        {
             let theirs = constants(&text(&format!("crates/{below}/src/lib.rt")));
             sizes.extend(theirs.into_iter().filter(|(name, _)| source.contains(&format!("use {of}::{name};"))));
         }
@@ -131,6 +133,7 @@ fn c_type(c: &str) -> &str {
         ("uint8_t", "u8"),
         ("uint16_t", "u16"),
         ("uint32_t", "u32"),
+        ("uint64_t", "u64"),
         ("int32_t", "i32"),
         ("size_t", "usize"),
         ("bool", "bool"),
@@ -178,12 +181,12 @@ fn header_text() -> String {
 #[test]
 fn every_function_is_declared_as_it_is_written() {
     let (rattle, ffi, header) = (rattle(), ffi(&text("host/rust/sctp-receive/src/ffi.rs")), header(&header_text()));
-    assert_eq!(rattle.len(), 56, "{:?}", rattle.keys());
+    assert_eq!(rattle.len(), 71, "{:?}", rattle.keys());
     for (name, written) in &rattle {
         assert_eq!(Some(written), ffi.get(name), "src/ffi.rs: {name}");
         assert_eq!(Some(written), header.get(name), "sctp_receive.h: {name}");
     }
-    assert_eq!((ffi.len(), header.len()), (56, 56));
+    assert_eq!((ffi.len(), header.len()), (71, 71));
 }
 
 /// A wrong declaration is seen: two parameters changed about, one left out, another width, another size.
@@ -203,6 +206,7 @@ fn wrong_declarations_are_seen() {
         ("uint32_t sctp_receive_crc32c(", "int32_t sctp_receive_crc32c("),
         ("uint8_t sctp_receive_tsn_compare(", "bool sctp_receive_tsn_compare("),
         ("int32_t sctp_receive_chunks_len(", "uint32_t sctp_receive_chunks_len("),
+        ("uint64_t message,", "uint32_t message,"),
     ] {
         assert!(right.contains(is), "{is}");
         assert_ne!(header(&right.replacen(is, becomes, 1)), rattle, "{becomes}");
@@ -255,4 +259,5 @@ fn sizes_and_numbers() {
     for (order, name) in Order::ALL.into_iter().zip(["EARLIER", "SAME", "LATER", "OPPOSITE"]) {
         assert_eq!(macros[&format!("SCTP_RECEIVE_{name}")], order as i32, "{name}");
     }
+    assert_eq!(macros["SCTP_RECEIVE_IN_FLIGHT"], 18);
 }

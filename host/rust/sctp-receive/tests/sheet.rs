@@ -274,6 +274,6 @@ fn run_only() {
 #[test]
 fn errors_have_the_documents_numbers() {
     let numbers: Vec<i32> = Error::ALL.iter().map(|e| *e as i32).collect();
-    assert_eq!(numbers, (0..=17).collect::<Vec<_>>());
+    assert_eq!(numbers, (0..=18).collect::<Vec<_>>());
     assert!(Error::ALL.iter().all(|e| !e.to_string().is_empty()));
 }
