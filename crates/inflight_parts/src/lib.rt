@@ -1,4 +1,4 @@
-// What the calls of the in-flight queue are made of: the test that each begins with, what a record says, and the list of message numbers.
+// What the calls of the in-flight queue are made of: what a record says, and the moves of the numbers of messages.
 ghost use mathlib.Core.Path.{_≡_};
 ghost use mathlib.Core.List.{[], _∷_};
 ghost use Prim.Native.Nat.{_+_, _*_, _<_, _≤_};
