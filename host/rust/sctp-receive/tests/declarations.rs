@@ -1,6 +1,5 @@
 //! Nothing else checks the declarations of src/ffi.rs and of include/sctp_receive.h: here both are held to the signatures of the Rattle source that the
 //! library is compiled from. Names, number, order and types of the parameters, results, and the sizes.
-use sctp_receive::Error;
 use sctp_receive::serial::Order;
 use std::collections::BTreeMap;
 use std::fs;
@@ -251,13 +250,13 @@ fn sizes_and_numbers() {
         "BAD_CHECKSUM",
         "NO_DATA",
         "BAD_CAUSE",
+        "OPPOSITE_TSN",
+        "IN_FLIGHT",
     ];
     for (number, name) in (-1..).zip(refusals) {
         assert_eq!(macros[&format!("SCTP_RECEIVE_{name}")], number, "{name}");
     }
-    assert_eq!(macros["SCTP_RECEIVE_OPPOSITE_TSN"], Error::OppositeTsn as i32);
     for (order, name) in Order::ALL.into_iter().zip(["EARLIER", "SAME", "LATER", "OPPOSITE"]) {
         assert_eq!(macros[&format!("SCTP_RECEIVE_{name}")], order as i32, "{name}");
     }
-    assert_eq!(macros["SCTP_RECEIVE_IN_FLIGHT"], 18);
 }
