@@ -11,6 +11,7 @@ use answer_text::operands;
 use answer_text::operands::BYTES;
 use chunks::Flag;
 use chunks::Number;
+use reassembly_queue::Applicable;
 use reassembly_queue::Done;
 use reassembly_queue::Forwarded;
 use reassembly_queue::ReassemblyQueue;
@@ -25,7 +26,7 @@ pub fn told(
 ) -> Fragments {
     match operands::u8_at(call, 0) {
         33 => push(state, call, table, pool, user),
-        34 | 36 | 37 | 38 => lent(state, call, table, pool),
+        34 | 36 | 37 | 38 | 42 | 43 => lent(state, call, table, pool),
         40 => forge::fragments(state, call, table, pool),
         41 => state::with_queue(state, state.queue, shown::whole(state.queue, table, pool)),
         _ => new(state, call),
@@ -45,6 +46,7 @@ fn lent(state: Fragments, call: &[u8], table: &mut [u32; WORDS], pool: &mut [u8]
     match operands::u8_at(call, 0) {
         34 => state::with_queue(state, queue, flag(queue.is_readable(table, pool))),
         38 => state::with_queue(state, queue, number(queue.get_num_bytes(table, pool))),
+        43 => state::with_queue(state, queue, applicable(queue, call, table, pool)),
         _ => forwarded(state, skipped(queue, call, table, pool)),
     }
 }
@@ -57,7 +59,28 @@ fn skipped(
 ) -> Forwarded {
     match operands::u8_at(call, 0) {
         36 => queue.forward_tsn_for_ordered(table, pool, operands::u16_at(call, 1)),
+        42 => queue.forward_tsn_for_ordered_bounded(
+            table,
+            pool,
+            operands::u16_at(call, 1),
+            operands::u32_at(call, 3),
+        ),
         _ => queue.forward_tsn_for_unordered(table, pool, operands::u32_at(call, 1)),
+    }
+}
+
+fn applicable(queue: ReassemblyQueue, call: &[u8], table: &[u32; WORDS], pool: &[u8]) -> Answer {
+    let told = queue.applicable_forward_tsn_for_ordered_bounded(
+        table,
+        pool,
+        operands::u16_at(call, 1),
+        operands::u32_at(call, 3),
+        operands::u32_at(call, 7),
+    );
+    match told {
+        Applicable::Ssn(ssn) => answer::one(answer::NUMBER, ssn as u64),
+        Applicable::Nothing => answer::plain(answer::NONE),
+        Applicable::Refused(k) => answer::refused(k),
     }
 }
 

@@ -15,7 +15,7 @@ pub const PLACES: usize = 9;
 // r a raw, d data, s shorts, w words, b a room of bytes, n one of numbers, c one of causes; q, t and m what is forged of a TSN queue, of a reassembly queue, of a message in
 // hand. ? is the number of no call.
 const FORMS: [u8; 621] =
-    *b"?        44       22       44       22       r        r        r        b1f4224d r        r        r        r8       r8       b144ssw  ?                 44       f422424  4        4        4                 4nn2                                         2                 q28               24       f4224d            b1       2        4                          t28               ?        ?        ?        ?        ?        ?                          b1       8        m8       r        r        r8       b14ss    44       r44      r        r        r8       r8       r        b1224r   rcccc2   rcccc2   44       22       ";
+    *b"?        44       22       44       22       r        r        r        b1f4224d r        r        r        r8       r8       b144ssw  ?                 44       f422424  4        4        4                 4nn2                                         2                 q28               24       f4224d            b1       2        4                          t28               24       244      ?        ?        ?        ?                          b1       8        m8       r        r        r8       b14ss    44       r44      r        r        r8       r8       r        b1224r   rcccc2   rcccc2   44       22       ";
 
 // The letter of an operand; a space behind the last one.
 pub fn letter(number: u8, operand: usize) -> u8 {

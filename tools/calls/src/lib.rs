@@ -115,6 +115,8 @@ calls! {
     39 RqState { }
     40 RqForge { field: u8, index: u16, value: u64 }
     41 RqWhole { }
+    42 RqForwardOrderedBounded { ssn: u16, tsn: u32 }
+    43 RqApplicableForward { ssn: u16, tsn: u32, peer: u32 }
     48 MLen { }
     49 MIsEmpty { }
     50 MRead { room: u32, fill: u8 }

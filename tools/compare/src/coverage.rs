@@ -43,6 +43,8 @@ const EXPECTED: &[(&str, &str, &str)] = &[
     ("RqRead", "message,none", "message unnamed,refused 0,refused 10"),
     ("RqForwardOrdered", "done", "refused 0"),
     ("RqForwardUnordered", "done", "refused 0"),
+    ("RqForwardOrderedBounded", "done", "refused 0"),
+    ("RqApplicableForward", "number,none", "refused 0"),
     ("RqNumBytes", "number", "refused 0"),
     ("RqState", "queue", ""),
     ("RqForge", "", "done"),
@@ -83,6 +85,9 @@ pub enum Event {
     StreamForwarded,
     TsnsForwarded,
     OldPoint,
+    HeldBack,
+    Abandoned,
+    PartApplies,
 }
 
 const EVENTS: &[(Event, &str)] = &[
@@ -96,6 +101,9 @@ const EVENTS: &[(Event, &str)] = &[
     (Event::StreamForwarded, "FORWARD TSN chunks that change a stream"),
     (Event::TsnsForwarded, "FORWARD TSN chunks that change the TSN queue"),
     (Event::OldPoint, "FORWARD TSN chunks that change nothing and would with a point that is not old"),
+    (Event::HeldBack, "bounded skips that a set holds back"),
+    (Event::Abandoned, "bounded skips that drop incomplete sets"),
+    (Event::PartApplies, "bounded skips of which a part applies"),
 ];
 
 #[derive(Default)]

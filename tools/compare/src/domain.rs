@@ -45,6 +45,8 @@ pub fn inside(model: &Model, call: &Call) -> bool {
         Call::RqRead { room, .. } => fits(&model.reassembly, *room),
         Call::RqForwardOrdered { ssn } => ssns(&model.reassembly, &[*ssn, ssn.wrapping_add(1)]),
         Call::RqForwardUnordered { tsn } => tsns(&model.reassembly, *tsn),
+        Call::RqForwardOrderedBounded { ssn, .. } => ssns(&model.reassembly, &[*ssn, ssn.wrapping_add(1)]),
+        Call::RqApplicableForward { ssn, .. } => ssns(&model.reassembly, &[*ssn]),
         Call::MNext { most } => *most <= PIECE_MOST,
         Call::TsnDistance { .. } | Call::SsnDistance { .. } | Call::SackBlockAt { .. } | Call::SackDuplicateAt { .. } | Call::FwdStreamAt { .. } => false,
         Call::PqForge { .. } | Call::PqWhole {} | Call::RqForge { .. } | Call::RqWhole {} | Call::MForge { .. } => false,

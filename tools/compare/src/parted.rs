@@ -96,6 +96,14 @@ fn opposite() -> Vec<Call> {
     [compared, unheld, held, beside].concat()
 }
 
+/// 28: an SSN half way round from that of a bounded skip.
+fn bounded() -> Vec<Call> {
+    let ask = |ssn, peer| Call::RqApplicableForward { ssn, tsn: 0, peer };
+    let expected = fresh([ask(32_768, 0), ask(32_767, 0), ask(32_769, 0)]);
+    let held = fresh([push(B, 1, 32_768, 1), ask(0, 9), ask(1, 9), ask(32_768, 9)]);
+    [expected, held].concat()
+}
+
 /// 19 to 22: packets that the Rust does not take whole, or steps through otherwise.
 fn packets() -> Vec<Call> {
     let bodies: [&[u8]; 8] = [
@@ -136,5 +144,5 @@ fn causes() -> Vec<Call> {
 }
 
 pub fn calls() -> Vec<Call> {
-    [duplicates(), identifiers(), without_data(), half_way(), bytes_and_pieces(), all_the_way_round(), packets(), opposite(), causes()].concat()
+    [duplicates(), identifiers(), without_data(), half_way(), bytes_and_pieces(), all_the_way_round(), packets(), opposite(), causes(), bounded()].concat()
 }

@@ -61,6 +61,8 @@ fn operands(call: &mut Call) -> Vec<Operand<'_>> {
         Call::RqRead { room, fill } | Call::MRead { room, fill } => vec![U32(room), U8(fill)],
         Call::PqContainsStream { stream } => vec![U16(stream)],
         Call::RqForwardOrdered { ssn } => vec![U16(ssn)],
+        Call::RqForwardOrderedBounded { ssn, tsn } => vec![U16(ssn), U32(tsn)],
+        Call::RqApplicableForward { ssn, tsn, peer } => vec![U16(ssn), U32(tsn), U32(peer)],
         Call::MNext { most } => vec![U64(most)],
         Call::PqForge { value, .. } | Call::RqForge { value, .. } | Call::MForge { value, .. } => vec![U64(value)],
         Call::Sna32 { a, b } | Call::TsnDistance { a, b } | Call::TsnCompare { a, b } => vec![U32(a), U32(b)],

@@ -52,6 +52,14 @@ impl Reassembly {
                 queue.forward_tsn_for_unordered(*tsn);
                 words!(line, "done")
             }
+            Call::RqForwardOrderedBounded { ssn, tsn } => {
+                queue.forward_tsn_for_ordered_bounded(*ssn, *tsn);
+                words!(line, "done")
+            }
+            Call::RqApplicableForward { ssn, tsn, peer } => match queue.applicable_forward_tsn_for_ordered_bounded(*ssn, *tsn, *peer) {
+                Some(ssn) => words!(line, "number", ssn),
+                None => words!(line, "none"),
+            },
             Call::RqApplyForward { part, cumulative, point } => {
                 if !forward_tsn::is_old(*point, *cumulative) {
                     forward_tsn::ssns_of(queue.si, part).into_iter().for_each(|ssn| queue.forward_tsn_for_ordered(ssn));

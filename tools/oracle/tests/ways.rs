@@ -72,6 +72,13 @@ fn sets_half_way_round_stay_in_order_of_arrival() {
 }
 
 #[test]
+fn an_ssn_half_way_round_is_after_that_of_a_bounded_skip() {
+    let ask = |ssn, peer| Call::RqApplicableForward { ssn, tsn: 0, peer };
+    answered(&[(ask(32_768, 0), "number 32768"), (ask(32_767, 0), "none"), (ask(32_769, 0), "number 32769")]);
+    answered(&[(push(B, 1, 32_768, 1), "no"), (ask(0, 9), "number 0"), (ask(1, 9), "number 1")]);
+}
+
+#[test]
 fn an_unordered_skip_keeps_what_is_half_way_round() {
     answered(&[
         (push(U | B, 1 << 31, 0, 1), "no"),

@@ -1,4 +1,5 @@
 //! Random calls from a seed. A model stands beside the generator, so that it knows the state and, in mode `in`, keeps inside document 01's domain.
+mod bounded;
 mod causes;
 mod codec;
 mod forge;

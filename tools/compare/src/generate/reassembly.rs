@@ -1,6 +1,6 @@
 //! Runs of reassembly: messages whose fragments arrive in any order, with takes and skips between them.
 use super::plan::{self, Fragment, Kind};
-use super::{Maker, forge, forward, hand, tsns};
+use super::{Maker, bounded, forge, forward, hand, tsns};
 use crate::Mode;
 use crate::coverage::Event;
 use crate::model::fragments::{BYTES, FRAGMENTS};
@@ -72,6 +72,9 @@ fn arrive(m: &mut Maker, mut due: Vec<Fragment>, plain: bool) {
         if !plain && m.rng.one_in(40) {
             forward::stream(m);
         }
+        if !plain && m.rng.one_in(80) {
+            bounded::skip(m);
+        }
         if m.wild(12) {
             m.put(Call::RqPush { fields, data });
         }
@@ -104,6 +107,9 @@ fn odd(m: &mut Maker) {
         }
         if m.rng.one_in(14) {
             forward::stream(m);
+        }
+        if m.rng.one_in(9) {
+            bounded::skip(m);
         }
         step_on(m);
     }
@@ -196,15 +202,20 @@ fn step_on(m: &mut Maker) {
     if m.wild(20) {
         forward::stream(m);
     }
+    if m.wild(20) {
+        bounded::skip(m);
+    }
     look(m);
 }
 
 fn ask(m: &mut Maker) {
-    match m.rng.below(8) {
+    match m.rng.below(10) {
         0 | 1 => m.put(Call::RqIsReadable {}),
         2 => m.put(Call::RqNumBytes {}),
         3 if m.mode == Mode::Out => skip(m),
         4 if m.mode == Mode::Out => forward::stream(m),
+        5 if m.mode == Mode::Out => bounded::skip(m),
+        8 | 9 => bounded::ask(m),
         _ => _ = hand::take(m),
     }
 }

@@ -84,6 +84,15 @@ faults! {
     PastTheChunk "cause bytes past an enclosed chunk are read as causes"
     EmptyValueHolds "an empty value of code 6 is refused as a chunk of no bytes"
     RoomBeforeCauses "the room of the lists is tested before the causes"
+    PastUnreached "a bounded skip carries the expected SSN past a set that its point does not reach"
+    UnreachedDropped "a bounded skip drops incomplete sets that its point does not reach"
+    FirstIsBegun "no TSN is missing before a set's first, B or not"
+    ReachedByFirst "a point reaches a complete set with its first TSN"
+    ExpectedBack "a bounded skip carries the expected SSN back"
+    OwnSetIgnored "the set of a bounded skip's own SSN plays no part in how far it applies"
+    LaterIgnored "TSNs held from a bounded skip's SSN on play no part in how far it applies"
+    PartByLast "a set ends a part of a bounded skip by its last TSN"
+    LowestPart "a bounded skip applies to the lowest SSN that may end a part"
 }
 
 /// Which mistake is made, if any.

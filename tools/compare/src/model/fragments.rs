@@ -163,7 +163,7 @@ impl Reassembly {
         Lists { finished: all, loose, ordered }
     }
 
-    fn lay(&mut self, lists: &Lists) {
+    pub fn lay(&mut self, lists: &Lists) {
         if self.serial.wrong.is(Fault::RestCleared) {
             self.rows.fill(Row::default());
         }

@@ -1,5 +1,6 @@
 //! Document 01's rules and document 02's as a plain program: what each call of docs/CALLS.md answers, and what it leaves. Written from the documents, to be held
 //! against the proved program and against the Rust.
+pub mod bounded;
 pub mod causes;
 pub mod codec;
 pub mod fault;
@@ -48,7 +49,7 @@ impl Answers for Model {
         match call.number() {
             1..=14 | 67 | 68 => self.answer_codec(call, line),
             16..=31 => self.answer_tsns(call, line),
-            32..=41 => self.answer_reassembly(call, line),
+            32..=43 => self.answer_reassembly(call, line),
             53..=58 => self.answer_forward(call, line),
             59..=64 => self.answer_packets(call, line),
             65.. => self.answer_causes(call, line),
@@ -273,6 +274,11 @@ impl Model {
             }
             Call::RqForwardOrdered { ssn } => done(queue.forward_ordered(*ssn), line),
             Call::RqForwardUnordered { tsn } => done(queue.forward_unordered(*tsn), line),
+            Call::RqForwardOrderedBounded { ssn, tsn } => done(bounded::forward(queue, *ssn, *tsn), line),
+            Call::RqApplicableForward { ssn, tsn, peer } => told(bounded::applicable(queue, *ssn, *tsn, *peer), line, |ssn, line| match ssn {
+                Some(ssn) => words!(line, "number", ssn),
+                None => words!(line, "none"),
+            }),
             Call::RqNumBytes {} => number(queue.sound().map(|()| queue.sum()), line),
             _ => show_reassembly(queue, call, line),
         }
