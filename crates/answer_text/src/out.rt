@@ -4,8 +4,8 @@ use crate::operands;
 
 pub const SPACE: usize = 262144;
 
-// No line is longer: the longest holds two lists of 16,400 numbers.
-pub const LINE: usize = 200000;
+// No line is longer: the longest holds four lists of 10,000 numbers of 16 bits.
+pub const LINE: usize = 250000;
 
 pub fn byte(out: &mut [u8; SPACE], at: usize, b: u8) -> usize {
     if at < SPACE {
