@@ -49,7 +49,7 @@ pub enum Error {
 
 impl Error {
     /// Every refusal, in the order of their numbers.
-    pub const ALL: [Error; 17] = [
+    pub const ALL: [Error; 19] = [
         Error::Unsound,
         Error::NoHeader,
         Error::BadLength,
