@@ -101,7 +101,7 @@ fn chunk(m: &mut Maker) -> Vec<u8> {
         8 => {
             let n = rng.below(30) as usize;
             let value: Vec<u8> = (0..n).map(|_| rng.byte()).collect();
-            codec::chunk(rng.pick(&[0, 1, 3, 3, 192, 255]), rng.byte(), &value)
+            codec::chunk(rng.pick(&[0, 0, 1, 3, 3, 192, 255]), rng.byte(), &value)
         }
         _ => (0..rng.below(30)).map(|_| rng.byte()).collect(),
     };

@@ -43,7 +43,8 @@ fn planned(m: &mut Maker) {
     let messages = m.rng.within(1, 9);
     let before_wrap = m.rng.below(messages.div_ceil(2)) as u16;
     let any = m.rng.number() as u16;
-    let ssn = m.rng.pick(&[0, 65_535 - before_wrap, 65_535 - before_wrap, 65_535 - before_wrap, any]);
+    let wraps = 65_535 - before_wrap;
+    let ssn = m.rng.pick(&[0, wraps, wraps, wraps, wraps, wraps, wraps, any]);
     if m.model.reassembly.expected == 0 && (ssn != any || m.rng.one_in(3)) {
         wind(m, ssn);
     }
