@@ -7,6 +7,7 @@ use chunks::Flag;
 use reassembly_state::Counts;
 use reassembly_state::Pushed;
 use reassembly_state::WORDS;
+use reassembly_state::room;
 
 // Refused where the counts are unsound, false where the chunk is of another stream; else by its mark U.
 pub(crate) fn push(
@@ -31,7 +32,8 @@ pub(crate) fn push(
         };
     }
     if chunk.unordered {
-        return reassembly_unordered::push(counts, table, pool, chunk, user_data);
+        let room = room::has_room(counts, user_data.len());
+        return reassembly_unordered::push(counts, table, pool, chunk, user_data, room);
     }
     reassembly_ordered::push(counts, table, pool, chunk, user_data)
 }

@@ -1,11 +1,12 @@
 -- Where things stand among the rows: what the calls' inner functions ask of each other. No promise of a public call names these.
 -- Assumes nothing.
 use mathlib.Core.Path.{_≡_}
-use mathlib.Core.Bool.{Bool, cond}
+use mathlib.Core.Bool.{Bool, true, cond}
 use mathlib.Core.List.{List, map}
-use Prim.Native.Nat.{ℕ, _+_, _-_, _≤_}
+use Prim.Native.Nat.{ℕ, _+_, _-_, _≤_, _<_}
 use lib.Dec.{ltb, eqb}
-use lib.ListN.{take, drop}
+use lib.ListN.{length, take, drop}
+use Rattle.wire.specs.Refusal.{Told}
 use Rattle.serial.specs.Serial.{next}
 use Rattle.chunk_payload_data.specs.declared.ChunkPayloadData.{ChunkPayloadData}
 use Rattle.moves.specs.Lists.{slice}
@@ -16,8 +17,9 @@ use Rattle.fragments.specs.Words.{placed}
 use Rattle.fragment_sets.specs.Sets.{otherSsn}
 use Rattle.loose_fragments.specs.Loose.{runDown, runUp, scanned}
 use Rattle.loose_fragments.specs.declared.Span.{Span}
-use Rattle.reassembly_state.specs.Model.{Queue, queue, Given, moveRun, turn}
-use Rattle.reassembly_state.specs.State.{State, fragments, view}
+use Rattle.reassembly_state.specs.Limits.{fragsMost, bytesMost}
+use Rattle.reassembly_state.specs.Model.{Queue, queue, Given, gives, keepOrdered, pushOrdered, moveRun, turn}
+use Rattle.reassembly_state.specs.State.{State, count, fragments, view, fragmentOf}
 use Rattle.reassembly_state.specs.declared.Counts.{Counts}
 
 -- the index of the first ordered fragment, and the rows of the ordered ones
@@ -33,6 +35,17 @@ setAt s ssn = firstOrdered s + aheadOf (ofRow (hasSsn ssn)) (orderedRows s)
 
 abbrev pub setRun : State → ℕ → ℕ
 setRun s ssn = aheadOf (ofRow (otherSsn ssn)) (drop (aheadOf (ofRow (hasSsn ssn)) (orderedRows s)) (orderedRows s))
+
+-- one more fragment of so many bytes fits, where there is said to be room
+abbrev pub fitsIf : Bool → Counts → ℕ → Type 0
+fitsIf room q more = room ≡ true → (count q < fragsMost) × (q .«n_bytes» + more ≤ bytesMost)
+
+-- what the questions of an ordered push find: where its set stands; whether it is kept, which takes room; and what it is told where it is not
+pub record Asks (s : State) (room : Bool) (p : ChunkPayloadData) (more : ℕ) (told : Told Bool) (keep : Bool) (at run : ℕ) : Type 0 where
+  pub at-is : at ≡ setAt s (p .«stream_sequence_number»)
+  pub run-is : run ≡ setRun s (p .«stream_sequence_number»)
+  pub with-room : keep ≡ true → room ≡ true
+  pub is : (bytes : List ℕ) → length bytes ≡ more → pushOrdered room (view s) (fragmentOf p bytes) ≡ cond keep (keepOrdered (view s) (fragmentOf p bytes)) (gives told (view s))
 
 -- the rows of the loose unordered fragments
 abbrev pub looseRows : Counts → List Row → List Row

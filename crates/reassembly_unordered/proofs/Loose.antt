@@ -1,13 +1,13 @@
 -- Loose unordered fragments: how far a message reaches, a fragment stored among them, and one scan.
 -- Assumes nothing.
 use mathlib.Core.Path.{_≡_, refl, sym, ap, _∙_}
-use mathlib.Core.Bool.{Bool, true, false, cond, _&&_, true≢false}
+use mathlib.Core.Bool.{Bool, true, false, cond}
 use mathlib.Core.List.{List, [], _∷_, _++_, map}
 use mathlib.Core.Option as option
 use Prim.Native.Nat.{ℕ, _+_, _-_, _*_, _<_, _≤_}
 use native.Mathlib.Omega.{arith}
-use borrow.Author.Tests.{lt-ltb, le-ltb, ltb-true, ltb-false, leb-true}
-use lib.Dec.{ltb, leb}
+use borrow.Author.Tests.{lt-ltb, le-ltb, ltb-true, ltb-false}
+use lib.Dec.{ltb}
 use lib.ListN.{length, take, drop, length-append, length-take, length-drop, length-map}
 use Rattle.chunk_payload_data.specs.declared.ChunkPayloadData.{ChunkPayloadData}
 use Rattle.serial.specs.Serial.{next}
@@ -28,12 +28,12 @@ use Rattle.fragments.proofs.Seen.{any-cut, placed-cut}
 use Rattle.loose_fragments.proofs.Seen.{run-cut, scan-cut}
 use Rattle.loose_fragments.proofs.Scanned.{scan-within}
 use Rattle.reassembly_state.specs.Limits.{fragsMost, bytesMost}
-use Rattle.reassembly_state.specs.Model.{Given, Queue, queue, held, gives, roomFor, moveRun, keepLoose, pushUnordered}
+use Rattle.reassembly_state.specs.Model.{Given, Queue, queue, held, gives, moveRun, keepLoose, pushUnordered}
 use Rattle.reassembly_state.specs.State.{State, count, unsound, fragments, view, counts, lay, after, laid, fragmentOf}
 use Rattle.reassembly_state.specs.Rows.{looseRows, neighbours, storedLoose, settled}
 use Rattle.reassembly_state.proofs.Parts.{put-length, put-middle, turned-middle}
 use Rattle.reassembly_state.proofs.Laid.{sound-lay, view-lay, lay-lay, counts-of}
-use Rattle.reassembly_state.proofs.Laws.{Sound, held-view, fragments-length, finished-length, unordered-length, ordered-length, unordered-cut, size-held, segment-fits, lay-own, room-is}
+use Rattle.reassembly_state.proofs.Laws.{Sound, held-view, fragments-length, finished-length, unordered-length, ordered-length, unordered-cut, size-held, segment-fits, lay-own}
 use Rattle.reassembly_state.proofs.Chunk.{chunk-begins, chunk-ends, chunk-tsn, chunk-bytes}
 use Rattle.reassembly_state.specs.declared.Counts.{Counts}
 
@@ -287,17 +287,7 @@ module _ (s : State) (k : Sound s) (full : length (s .rows) ≡ fragsMost) where
 
 -- ── a push, by what the rows say ──
 
-each : (a b : Bool) → a && b ≡ true → (a ≡ true) × (b ≡ true)
-each true b e = (refl, e)
-each false b e = absurd (true≢false (sym e))
-
-pub has-room : (q : Counts) (n : ℕ) → leb (count q + 1) fragsMost && leb (q .«n_bytes» + n) bytesMost ≡ true → (count q < fragsMost) × (q .«n_bytes» + n ≤ bytesMost)
-has-room q n e =
-    let x = each (leb (count q + 1) fragsMost) (leb (q .«n_bytes» + n) bytesMost) e in
-    let few = leb-true (count q + 1) fragsMost (x .0) in
-    (omega arith, leb-true (q .«n_bytes» + n) bytesMost (x .1))
-
-module _ (s : State) (k : Sound s) (full : length (s .rows) ≡ fragsMost) (p : ChunkPayloadData) (bytes : List ℕ) where
+module _ (s : State) (k : Sound s) (full : length (s .rows) ≡ fragsMost) (p : ChunkPayloadData) (bytes : List ℕ) (room : Bool) where
   -- its tests
   abbrev pub large : Bool
   large = ltb (s .queue .«max_message_size») (neighbours (s .queue) (s .rows) p + length bytes)
@@ -305,12 +295,9 @@ module _ (s : State) (k : Sound s) (full : length (s .rows) ≡ fragsMost) (p : 
   abbrev pub again : Bool
   again = some (ofRow (hasTsn (p .tsn))) (looseRows (s .queue) (s .rows))
 
-  abbrev pub roomy : Bool
-  roomy = leb (count (s .queue) + 1) fragsMost && leb (s .queue .«n_bytes» + length bytes) bytesMost
-
   -- what the model makes of it
   abbrev pub push-of : Given Bool
-  push-of = pushUnordered (roomFor (view s) (fragmentOf p bytes)) (view s) (fragmentOf p bytes)
+  push-of = pushUnordered room (view s) (fragmentOf p bytes)
 
   max-is : view s .max ≡ s .queue .«max_message_size»
   unfolding view
@@ -322,9 +309,6 @@ module _ (s : State) (k : Sound s) (full : length (s .rows) ≡ fragsMost) (p : 
   again-is : any (hasTsn (fragmentOf p bytes .tsn)) (view s .unordered) ≡ again
   again-is = has-tsn-is s k full (fragmentOf p bytes .tsn) ∙ ap (λ (t : ℕ). some (ofRow (hasTsn t)) (looseRows (s .queue) (s .rows))) (chunk-tsn p bytes)
 
-  roomy-is : roomFor (view s) (fragmentOf p bytes) ≡ roomy
-  roomy-is = room-is s k full (fragmentOf p bytes) ∙ ap (λ (l : List ℕ). leb (count (s .queue) + 1) fragsMost && leb (s .queue .«n_bytes» + length l) bytesMost) (chunk-bytes p bytes)
-
   pub push-large : large ≡ true → after (says (refuse 6) false) s ≡ laid s push-of
   unfolding pushUnordered
   push-large e = rw (large-is ∙ e, lay-own s k full)
@@ -334,10 +318,10 @@ module _ (s : State) (k : Sound s) (full : length (s .rows) ≡ fragsMost) (p : 
     unfolding pushUnordered
     push-again h = rw (large-is ∙ e, again-is ∙ h, lay-own s k full)
 
-    pub push-crowded : again ≡ false → roomy ≡ false → after (says (refuse 8) false) s ≡ laid s push-of
+    pub push-crowded : again ≡ false → room ≡ false → after (says (refuse 8) false) s ≡ laid s push-of
     unfolding pushUnordered
-    push-crowded h r = rw (large-is ∙ e, again-is ∙ h, roomy-is ∙ r, lay-own s k full)
+    push-crowded h r = rw (large-is ∙ e, again-is ∙ h, r, lay-own s k full)
 
-    pub push-stores : again ≡ false → roomy ≡ true → laid s (keepLoose (view s) (fragmentOf p bytes)) ≡ laid s push-of
+    pub push-stores : again ≡ false → room ≡ true → laid s (keepLoose (view s) (fragmentOf p bytes)) ≡ laid s push-of
     unfolding pushUnordered
-    push-stores h r = rw (large-is ∙ e, again-is ∙ h, roomy-is ∙ r)
+    push-stores h r = rw (large-is ∙ e, again-is ∙ h, r)

@@ -8,9 +8,9 @@ ghost use Rattle.table.specs.Rows.{rowsOf, total};
 ghost use Rattle.fragments.specs.Frag.{longLength};
 ghost use Rattle.reassembly_state.specs.Limits.{fragsMost, bytesMost};
 ghost use Rattle.chunks.specs.Message.{flagTold};
-ghost use Rattle.reassembly_state.specs.Model.{roomFor, pushUnordered};
+ghost use Rattle.reassembly_state.specs.Model.{pushUnordered};
 ghost use Rattle.reassembly_state.specs.State.{stateOf, unsound, count, view, lay, after, laid, fragmentOf};
-ghost use Rattle.reassembly_state.specs.Rows.{neighbours, storedLoose, settled};
+ghost use Rattle.reassembly_state.specs.Rows.{fitsIf, neighbours, storedLoose, settled};
 use chunk_payload_data::ChunkPayloadData;
 use chunks::Flag;
 use reassembly_state::Counts;
@@ -124,17 +124,19 @@ fn settle(queue: Counts, table: &mut [u32], pool: &mut [u8]) -> Pushed
     }
 }
 
-// Refusals and answers in document 01's order, and nothing changed ahead of storing.
+// Refusals and answers in document 01's order, and nothing changed ahead of storing; whether there is room the caller says.
 pub fn push(
     queue: Counts,
     table: &mut [u32],
     pool: &mut [u8],
     chunk: ChunkPayloadData,
     user_data: &[u8],
+    room: bool,
 ) -> Pushed
     requires { ⌜ length (now table) ≡ 4 * fragsMost ⌝ }
     requires { ⌜ unsound (stateOf queue (now table) (now pool)) ≡ false ⌝ }
-    ensures { λ r. ⌜ after (flagTold (r .answer)) (stateOf (r .queue) (now (table .exit)) (now (pool .exit))) ≡ laid (stateOf queue (now (table .entry)) (now (pool .entry))) (pushUnordered (roomFor (view (stateOf queue (now (table .entry)) (now (pool .entry)))) (fragmentOf chunk (now («user_data» .entry)))) (view (stateOf queue (now (table .entry)) (now (pool .entry)))) (fragmentOf chunk (now («user_data» .entry)))) ⌝ }
+    requires { ⌜ fitsIf room queue (length (now «user_data»)) ⌝ }
+    ensures { λ r. ⌜ after (flagTold (r .answer)) (stateOf (r .queue) (now (table .exit)) (now (pool .exit))) ≡ laid (stateOf queue (now (table .entry)) (now (pool .entry))) (pushUnordered room (view (stateOf queue (now (table .entry)) (now (pool .entry)))) (fragmentOf chunk (now («user_data» .entry)))) ⌝ }
 {
     let more = user_data.len();
     if too_large(queue, table, chunk, more) {
@@ -143,7 +145,7 @@ pub fn push(
     if table_search::has_tsn(table, FRAGMENTS, queue.finished, queue.unordered, chunk.tsn) {
         return room::unchanged(queue, Flag::Is(false));
     }
-    if !room::has_room(queue, more) {
+    if !room {
         return room::unchanged(queue, Flag::Refused(8));
     }
     let grown = store_loose(queue, table, pool, chunk, user_data);
