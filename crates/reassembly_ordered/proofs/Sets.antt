@@ -5,11 +5,11 @@ use mathlib.Core.Bool.{Bool, true, false, not, _||_, _&&_, cond, true≢false}
 use mathlib.Core.List.{List, [], _∷_, _++_, map}
 use Prim.Native.Nat.{ℕ, suc, _+_, _-_, _≤_, _<_}
 use native.Mathlib.Omega.{arith}
-use borrow.Author.Tests.{lt-ltb, le-ltb, ltb-false, leb-true}
-use lib.Dec.{ltb, leb}
+use borrow.Author.Tests.{lt-ltb, le-ltb, ltb-false}
+use lib.Dec.{ltb}
 use lib.ListN.{length, take, drop, getD, length-drop, take-append-drop}
 use lib.Seq.{length-take-le, take-take, take-at, drop-at, drop-drop}
-use Rattle.wire.specs.Refusal.{none, refuse, says}
+use Rattle.wire.specs.Refusal.{none, refuse, Told, says}
 use Rattle.serial.specs.Serial.{before}
 use Rattle.chunk_payload_data.specs.declared.ChunkPayloadData.{ChunkPayloadData}
 use Rattle.moves.specs.Lists.{put}
@@ -28,14 +28,14 @@ use Rattle.fragment_sets.proofs.Seen.{aheadOfSet, rowsOfSet, set-cut, stored-se
 use Rattle.fragment_sets.proofs.Complete.{segment-rest}
 use Rattle.reassembly_state.specs.Limits.{fragsMost, bytesMost}
 use Rattle.chunks.specs.Message.{flagTold}
-use Rattle.reassembly_state.specs.Model.{held, withOrdered, Given, gives, roomFor, keepOrdered, pushOrdered}
+use Rattle.reassembly_state.specs.Model.{held, withOrdered, Given, gives, keepOrdered, pushOrdered}
 use Rattle.reassembly_state.specs.State.{State, count, fragments, view, counts, lay, After, after, laid, fragmentOf}
-use Rattle.reassembly_state.specs.Rows.{firstOrdered, orderedRows, setAt, setRun}
+use Rattle.reassembly_state.specs.Rows.{firstOrdered, orderedRows, setAt, setRun, Asks}
 use Rattle.reassembly_state.specs.declared.Counts.{Counts}
 use Rattle.chunks.specs.declared.Flag.{Flag}
 use Rattle.reassembly_state.proofs.Parts.{drop-take, put-length, put-last}
-use Rattle.reassembly_state.proofs.Chunk.{chunkRow, chunk-begins, chunk-ends, chunk-ssn, chunk-tsn, chunk-flags, chunk-frag}
-use Rattle.reassembly_state.proofs.Laws.{Sound, segment-cut, segment-fits, ordered-cut, held-view, finished-length, unordered-length, ordered-length, fragments-length, size-held, lay-own, room-is}
+use Rattle.reassembly_state.proofs.Chunk.{chunkRow, chunk-begins, chunk-ends, chunk-ssn, chunk-tsn, chunk-bytes, chunk-flags, chunk-frag}
+use Rattle.reassembly_state.proofs.Laws.{Sound, segment-cut, segment-fits, ordered-cut, held-view, finished-length, unordered-length, ordered-length, fragments-length, size-held, lay-own}
 
 -- ── the run of those that do, from the first on ──
 
@@ -295,27 +295,7 @@ pub set-found : (s : State) → count (s .queue) ≤ fragsMost → length (s .ro
     → (firstOrdered s + ahead ≡ setAt s ssn) × (run ≡ setRun s ssn)
 set-found s few full ssn ahead-is run-is = (rw ahead-is, run-is ∙ rw (ahead-is, from-set s few full ssn))
 
--- what the answers to the four questions make of a push
-abbrev pub answered : State → Bool → Bool → Bool → Bool → After Bool → After Bool
-answered s large old again room kept =
-    cond large (after (says (refuse 6) false) s)
-    (cond old (after (says none false) s)
-    (cond again (after (says none false) s)
-    (cond room kept (after (says (refuse 8) false) s))))
-
 module _ (s : State) (k : Sound s) (full : length (s .rows) ≡ fragsMost) where
-  laid-answered : (large old again room : Bool) (kept : Given Bool)
-      → laid s (cond large (gives (says (refuse 6) false) (view s))
-      (cond old (gives (says none false) (view s))
-      (cond again (gives (says none false) (view s))
-      (cond room kept (gives (says (refuse 8) false) (view s))))))
-      ≡ answered s large old again room (laid s kept)
-  laid-answered true old again room kept = rw (lay-own s k full)
-  laid-answered false true again room kept = rw (lay-own s k full)
-  laid-answered false false true room kept = rw (lay-own s k full)
-  laid-answered false false false true kept = refl
-  laid-answered false false false false kept = rw (lay-own s k full)
-
   module _ (ssn : ℕ) where
     set-size : size (setOf ssn (view s .ordered)) ≡ B (take (setRun s ssn) (drop (setAt s ssn) (s .rows)))
     set-size =
@@ -325,32 +305,67 @@ module _ (s : State) (k : Sound s) (full : length (s .rows) ≡ fragsMost) where
     set-has : (t : ℕ) → any (hasTsn t) (setOf ssn (view s .ordered)) ≡ some (ofRow (hasTsn t)) (take (setRun s ssn) (drop (setAt s ssn) (s .rows)))
     set-has t = rw (set-view s (k .few) full ssn) (any-cut (hasTsn t) (ofRow (hasTsn t)) (λ r bs. refl) _ _)
 
-  pub push-is : (p : ChunkPayloadData) (bytes : List ℕ) → p .«stream_sequence_number» < 65536
-      → {at : ℕ} → at ≡ setAt s (p .«stream_sequence_number») → {run : ℕ} → run ≡ setRun s (p .«stream_sequence_number»)
-      → laid s (pushOrdered (roomFor (view s) (fragmentOf p bytes)) (view s) (fragmentOf p bytes))
-      ≡ answered s
-      (ltb (s .queue .«max_message_size») (B (take run (drop at (s .rows))) + length bytes))
-      (before 16 (p .«stream_sequence_number») (s .queue .«next_ssn»))
-      (some (ofRow (hasTsn (p .tsn))) (take run (drop at (s .rows))))
-      (leb (count (s .queue) + 1) fragsMost && leb (s .queue .«n_bytes» + length bytes) bytesMost)
-      (laid s (keepOrdered (view s) (fragmentOf p bytes)))
-  unfolding pushOrdered fragmentOf
-  push-is p bytes small at-is run-is =
-      let f = fragmentOf p bytes in
-      let m = setOf (ssnOf f) (view s .ordered) in
-      let ssn-is = chunk-ssn p bytes small in
-      let e = names s k full in
-      laid-answered (ltb (view s .max) (size m + length bytes)) (before 16 (ssnOf f) (view s .next)) (any (hasTsn (f .tsn)) m) (roomFor (view s) f) (keepOrdered (view s) f)
-      ∙ rw (room-is s k full f, ssn-is, chunk-tsn p bytes, set-size (p .«stream_sequence_number»), set-has (p .«stream_sequence_number») (p .tsn), e .1 .0, e .1 .1, at-is, run-is)
+  module _ (p : ChunkPayloadData) (small : p .«stream_sequence_number» < 65536) where
+    push-is : (room : Bool) (bytes : List ℕ) {at : ℕ} → at ≡ setAt s (p .«stream_sequence_number») → {run : ℕ} → run ≡ setRun s (p .«stream_sequence_number»)
+        → pushOrdered room (view s) (fragmentOf p bytes)
+        ≡ cond (ltb (s .queue .«max_message_size») (B (take run (drop at (s .rows))) + length bytes)) (gives (says (refuse 6) false) (view s))
+        (cond (before 16 (p .«stream_sequence_number») (s .queue .«next_ssn»)) (gives (says none false) (view s))
+        (cond (some (ofRow (hasTsn (p .tsn))) (take run (drop at (s .rows)))) (gives (says none false) (view s))
+        (cond room (keepOrdered (view s) (fragmentOf p bytes)) (gives (says (refuse 8) false) (view s)))))
+    unfolding pushOrdered
+    push-is room bytes at-is run-is =
+        let e = names s k full in
+        rw (chunk-ssn p bytes small, chunk-tsn p bytes, chunk-bytes p bytes, set-size (p .«stream_sequence_number»), set-has (p .«stream_sequence_number») (p .tsn), e .1 .0, e .1 .1, at-is, run-is)
+
+    -- what the answers to the four questions make of a push
+    module _ (more : ℕ) (room : Bool) {at : ℕ} (at-is : at ≡ setAt s (p .«stream_sequence_number»)) {run : ℕ} (run-is : run ≡ setRun s (p .«stream_sequence_number»)) where
+      abbrev large : Bool
+      large = ltb (s .queue .«max_message_size») (B (take run (drop at (s .rows))) + more)
+
+      abbrev old : Bool
+      old = before 16 (p .«stream_sequence_number») (s .queue .«next_ssn»)
+
+      abbrev again : Bool
+      again = some (ofRow (hasTsn (p .tsn))) (take run (drop at (s .rows)))
+
+      abbrev Asked : Told Bool → Bool → Type 0
+      Asked told keep = Asks s room p more told keep at run
+
+      -- not kept, with what is told
+      refused : {told : Told Bool} → ((bytes : List ℕ) → length bytes ≡ more → pushOrdered room (view s) (fragmentOf p bytes) ≡ gives told (view s)) → Asked told false
+      refused is = record { at-is = at-is; run-is = run-is; with-room = λ e. absurd (true≢false (sym e)); is = is }
+
+      pub asks-large : large ≡ true → Asked (says (refuse 6) false) false
+      asks-large a = refused (λ bytes e. push-is room bytes at-is run-is ∙ rw (e, a))
+
+      module _ (a : large ≡ false) where
+        pub asks-old : old ≡ true → Asked (says none false) false
+        asks-old b = refused (λ bytes e. push-is room bytes at-is run-is ∙ rw (e, a, b))
+
+        module _ (b : old ≡ false) where
+          pub asks-again : again ≡ true → Asked (says none false) false
+          asks-again c = refused (λ bytes e. push-is room bytes at-is run-is ∙ rw (e, a, b, c))
+
+          module _ (c : again ≡ false) where
+            pub asks-crowded : room ≡ false → Asked (says (refuse 8) false) false
+            asks-crowded d = refused (λ bytes e. push-is room bytes at-is run-is ∙ rw (e, a, b, c, d))
+
+            pub asks-kept : room ≡ true → Asked (says none false) true
+            asks-kept d = record { at-is = at-is; run-is = run-is; with-room = λ e. d; is = λ bytes e. push-is room bytes at-is run-is ∙ rw (e, a, b, c, d) }
+
+-- the questions' answer, put together
+pub told-so : {s : State} {room : Bool} {p : ChunkPayloadData} {more : ℕ} {a b : Flag} {x y : Bool} {i j m n : ℕ} → (a ≡ b) × ((x ≡ y) × ((i ≡ j) × (m ≡ n)))
+    → Asks s room p more (flagTold b) y j n → Asks s room p more (flagTold a) x i m
+told-so e k = rw (e .0, e .1 .0, e .1 .1 .0, e .1 .1 .1) k
+
+pub asked-stays : (s : State) → Sound s → length (s .rows) ≡ fragsMost → {room : Bool} (p : ChunkPayloadData) (bytes : List ℕ) {told : Told Bool} {keep : Bool} {at run : ℕ}
+    → Asks s room p (length bytes) told keep at run → keep ≡ false → after told s ≡ laid s (pushOrdered room (view s) (fragmentOf p bytes))
+asked-stays s k full p bytes a e = rw (a .is bytes refl, e, lay-own s k full)
+
+pub asked-keeps : (s : State) {room : Bool} (p : ChunkPayloadData) (bytes : List ℕ) {told : Told Bool} {keep : Bool} {at run : ℕ}
+    → Asks s room p (length bytes) told keep at run → keep ≡ true → laid s (keepOrdered (view s) (fragmentOf p bytes)) ≡ laid s (pushOrdered room (view s) (fragmentOf p bytes))
+asked-keeps s p bytes a e = rw (a .is bytes refl, e)
 
 -- the answer of a push that changes nothing
 pub stays : (s : State) {a b : Flag} {q : Counts} → (a ≡ b) × (q ≡ s .queue) → _≡_ {A = After Bool} (after (flagTold a) (record { queue = q; rows = s .rows; pool = s .pool })) (after (flagTold b) s)
 stays s e = rw (e .0, e .1)
-
--- two bounds in one question
-pub both-hold : (a b c d : ℕ) → (leb a b && leb c d) ≡ true → (a ≤ b) × (c ≤ d)
-both-hold a b c d e = go (leb a b) refl e
-  where
-    go : (t : Bool) → leb a b ≡ t → t && leb c d ≡ true → (a ≤ b) × (c ≤ d)
-    go true l r = (leb-true a b l, leb-true c d r)
-    go false l r = absurd (true≢false (sym r))

@@ -52,6 +52,6 @@ module _ (s : State) (e : unsound s ≡ false) (p : ChunkPayloadData) (bytes : L
       unfolding pushed push
       push-unordered u = rw (e, same, room-for, u)
 
-    pub push-ordered : p .unordered ≡ false → laid s (pushOrdered (roomFor (view s) (fragmentOf p bytes)) (view s) (fragmentOf p bytes)) ≡ pushed s p bytes
-    unfolding pushed push
-    push-ordered u = rw (e, same, u)
+      pub push-ordered : p .unordered ≡ false → laid s (pushOrdered room (view s) (fragmentOf p bytes)) ≡ pushed s p bytes
+      unfolding pushed push
+      push-ordered u = rw (e, same, room-for, u)

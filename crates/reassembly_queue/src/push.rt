@@ -31,9 +31,9 @@ pub(crate) fn push(
             queue: counts,
         };
     }
+    let room = room::has_room(counts, user_data.len());
     if chunk.unordered {
-        let room = room::has_room(counts, user_data.len());
         return reassembly_unordered::push(counts, table, pool, chunk, user_data, room);
     }
-    reassembly_ordered::push(counts, table, pool, chunk, user_data)
+    reassembly_ordered::push(counts, table, pool, chunk, user_data, room)
 }

@@ -8,6 +8,7 @@ use lib.ListN.{length}
 use Rattle.table.proofs.Columns.{rows-long}
 use Rattle.reassembly_state.specs.Limits.{fragsMost}
 use Rattle.reassembly_state.specs.State.{State, stateOf, unsound, pushed}
+use Rattle.reassembly_state.specs.Rows.{fitsIf}
 use Rattle.reassembly_state.proofs.Laws.{sound}
 use Rattle.reassembly_queue.proofs.Pushes.{room-fits, push-other, push-unordered, push-ordered}
 use Rattle.reassembly_queue.proofs.push.push.Statement.{statement}
@@ -32,29 +33,43 @@ other c = let e = c .before .before .before in push-other (of e) (ok e) _ _ (ful
 
 -- from the room back to the place where the queue is known to be sound
 abbrev asked : tie.After-has-room → tie.Else1
-asked c = c .before .before .before .before .before
+asked c = c .before .before .before .before
 
-stores : tie.Need-push-requires
-stores c κs =
-    let r = c .before .before in
-    let s = asked r .before .before .before .before .before .before .before in
-    (omega arith, (ok (asked r), room-fits (s .args .counts) (length (s .args .user-data .now)) (r .has-room .ensures)))
+abbrev start : tie.After-has-room → tie.Start
+start c = asked c .before .before .before .before .before .before .before
+
+fits : (c : tie.After-has-room) → fitsIf (c .has-room .result) (start c .args .counts) (length (start c .args .user-data .now))
+fits c = room-fits (start c .args .counts) (length (start c .args .user-data .now)) (c .has-room .ensures)
 
 unordered : tie.Need-returns-3
 unordered c =
     let p = c .before .before in
-    let r = p .before .before .before in
-    let t = r .before in
+    let t = p .before .before .before in
+    let r = t .before in
     let e = asked r in
-    p .push .ensures ∙ push-unordered (of e) (ok e) _ _ (t .before .if2 .left) (full e) (r .has-room .ensures) (t .if3 .taken)
+    p .push .ensures ∙ push-unordered (of e) (ok e) _ _ (r .before .if2 .left) (full e) (r .has-room .ensures) (t .if3 .taken)
 
 ordered : tie.Need-returns-4
 ordered c =
-    let t = c .before .before .before .before .before in
-    let e = c .before .before .before .before .before .before .before .before .before in
-    c .before .before .push2 .ensures ∙ push-ordered (of e) (ok e) _ _ (t .before .if2 .left) (t .if3 .left)
+    let p = c .before .before in
+    let t = p .before .before .before in
+    let r = t .before in
+    let e = asked r in
+    p .push2 .ensures ∙ push-ordered (of e) (ok e) _ _ (r .before .if2 .left) (full e) (r .has-room .ensures) (t .if3 .left)
 
 pub push-spec : {M : Type 1} → statement M
 push-spec =
     tie.close
-    (tie.spec (λ c κs. search needs) (λ c. search needs) refused (λ c. search needs) other (λ c κs. sound (of (c .before .before .before .before)) (ok (c .before .before .before .before)) .few) stores (λ c. search needs) unordered (λ c κs. (omega arith, ok (c .before .before .before .before .before .before))) (λ c. search needs) ordered)
+    (tie.spec
+    (λ c κs. search needs)
+    (λ c. search needs)
+    refused
+    (λ c. search needs)
+    other
+    (λ c κs. let e = c .before .before .before in sound (of e) (ok e) .few)
+    (λ c κs. let r = c .before .before .before in (omega arith, (ok (asked r), fits r)))
+    (λ c. search needs)
+    unordered
+    (λ c κs. let r = c .before .before .before in (omega arith, (ok (asked r), fits r)))
+    (λ c. search needs)
+    ordered)
