@@ -26,9 +26,9 @@ use Rattle.fragment_sets.proofs.Sets.{set-none}
 use Rattle.fragments.proofs.Seen.{any-cut}
 use Rattle.fragment_sets.proofs.Seen.{aheadOfSet, rowsOfSet, set-cut, stored-set, stored-fresh, grown-cut, complete-cut}
 use Rattle.fragment_sets.proofs.Complete.{segment-rest}
-use Rattle.reassembly_state.specs.Limits.{fragsMost, bytesMost}
+use Rattle.reassembly_state.specs.Limits.{fragsMost}
 use Rattle.chunks.specs.Message.{flagTold}
-use Rattle.reassembly_state.specs.Model.{held, withOrdered, Given, gives, keepOrdered, pushOrdered}
+use Rattle.reassembly_state.specs.Model.{held, withOrdered, gives, keepOrdered, pushOrdered}
 use Rattle.reassembly_state.specs.State.{State, count, fragments, view, counts, lay, After, after, laid, fragmentOf}
 use Rattle.reassembly_state.specs.Rows.{firstOrdered, orderedRows, setAt, setRun, Asks}
 use Rattle.reassembly_state.specs.declared.Counts.{Counts}

@@ -1,24 +1,26 @@
 -- Where things stand among the rows: what the calls' inner functions ask of each other. No promise of a public call names these.
 -- Assumes nothing.
 use mathlib.Core.Path.{_≡_}
-use mathlib.Core.Bool.{Bool, true, cond}
+use mathlib.Core.Bool.{Bool, true, false, cond}
 use mathlib.Core.List.{List, map}
 use Prim.Native.Nat.{ℕ, _+_, _-_, _≤_, _<_}
 use lib.Dec.{ltb, eqb}
 use lib.ListN.{length, take, drop}
-use Rattle.wire.specs.Refusal.{Told}
+use Rattle.wire.specs.BigEndian.{over}
+use Rattle.wire.specs.Refusal.{none, refuse, Told, says}
 use Rattle.serial.specs.Serial.{next}
 use Rattle.chunk_payload_data.specs.declared.ChunkPayloadData.{ChunkPayloadData}
-use Rattle.moves.specs.Lists.{slice}
+use Rattle.moves.specs.Lists.{slice, gone}
 use Rattle.table.specs.Rows.{aheadOf}
 use Rattle.table.specs.declared.Row.{Row}
 use Rattle.fragments.specs.Frag.{Frag, bare, ofRow, hasSsn, tsnBefore}
-use Rattle.fragments.specs.Words.{placed}
+use Rattle.fragments.specs.Words.{size, joined, placed}
+use Rattle.fragments.specs.Pool.{layRows, layBytes}
 use Rattle.fragment_sets.specs.Sets.{otherSsn}
 use Rattle.loose_fragments.specs.Loose.{runDown, runUp, scanned}
 use Rattle.loose_fragments.specs.declared.Span.{Span}
 use Rattle.reassembly_state.specs.Limits.{fragsMost, bytesMost}
-use Rattle.reassembly_state.specs.Model.{Queue, queue, Given, gives, keepOrdered, pushOrdered, moveRun, turn}
+use Rattle.reassembly_state.specs.Model.{Queue, queue, Given, gives, keepOrdered, pushOrdered, moveRun, throughEnd, turn, firstSsn, firstPpi, Message, noMessage}
 use Rattle.reassembly_state.specs.State.{State, count, fragments, view, fragmentOf}
 use Rattle.reassembly_state.specs.declared.Counts.{Counts}
 
@@ -71,6 +73,34 @@ pub record InTurn (s : State) (t : Span) : Type 0 where
   pub from : t .from ≡ cond (ltb 0 (s .queue .finished)) 0 (s .queue .finished + s .queue .unordered)
   pub within : t .to ≤ t .from + cond (ltb 0 (s .queue .finished)) (s .queue .finished) (s .queue .ordered)
   pub is : turn (view s) .frags ≡ slice (t .from) (t .to) (fragments s)
+
+-- how many fragments the oldest of these finished messages has
+abbrev pub oldest : List Frag → ℕ
+oldest l = length (take (throughEnd l) l)
+
+-- the message of these fragments: only an ordered one has its SSN
+unfoldable pub messageBy : Bool → List Frag → Message
+messageBy ordered m =
+    record { comes = true; ssn = cond ordered (firstSsn m) 0; ppi = firstPpi m; size = size m; position = 0; given = false }
+
+-- a message taken from among other fragments: the answer, how many fragments and bytes went, and what was lent
+pub record Out : Type 0 where
+  pub told : Told Message
+  pub k : ℕ
+  pub size : ℕ
+  pub rows : List Row
+  pub pool : List ℕ
+  pub buffer : List ℕ
+
+abbrev pub out : Told Message → ℕ → ℕ → List Row → List ℕ → List ℕ → Out
+out t k n rows pool buffer = record { told = t; k = k; size = n; rows = rows; pool = pool; buffer = buffer }
+
+-- the k fragments at index at of all that is held, taken out; 10 where the buffer is too short
+unfoldable pub takenOut : Bool → ℕ → ℕ → List Frag → List Row → List ℕ → List ℕ → Out
+takenOut ordered at k all rows pool buffer =
+    let m = take k (drop at all) in
+    cond (ltb (length buffer) (size m)) (out (says (refuse 10) noMessage) 0 0 rows pool buffer)
+    (out (says none (messageBy ordered m)) k (size m) (layRows (gone at k all) rows) (layBytes (gone at k all) pool) (over buffer (joined m)))
 
 -- the counts without a message of k fragments and so many bytes
 unfoldable pub withoutMessage : Counts → ℕ → ℕ → ℕ → Counts

@@ -8,13 +8,13 @@ use native.Mathlib.Decide.{decLe}
 use native.Mathlib.Omega.{arith}
 use borrow.Author.Tests.{lt-ltb, le-ltb, eq-eqb, ne-eqb}
 use lib.Dec.{ltb, eqb}
-use lib.ListN.{length, take, drop, getD, length-take, length-drop}
-use lib.Seq.{take-take, take-all, drop-cons, length-take-le}
+use lib.ListN.{length, take, drop, length-take, length-drop}
+use lib.Seq.{take-take, take-all, length-take-le}
 use Rattle.wire.specs.BigEndian.{over}
 use Rattle.wire.specs.Refusal.{none, refuse, says}
 use Rattle.serial.specs.Serial.{next, before}
 use Rattle.moves.specs.Lists.{slice, gone}
-use Rattle.table.specs.Rows.{blank, aheadOf}
+use Rattle.table.specs.Rows.{aheadOf}
 use Rattle.table.specs.declared.Row.{Row}
 use Rattle.table.proofs.Scans.{ahead-within}
 use Rattle.fragments.specs.Frag.{Frag, ends, ssnOf, hasSsn, longLength, fragOf, bare, ofRow}
@@ -23,24 +23,17 @@ use Rattle.fragment_sets.specs.Sets.{otherSsn, complete}
 use Rattle.loose_fragments.specs.Loose.{span}
 use Rattle.fragments.specs.Pool.{cut, layRows, layBytes}
 use Rattle.loose_fragments.specs.declared.Span.{Span}
-use Rattle.fragments.proofs.Pool.{B, cut-cons, cut-length, cut-take, cut-size, cut-joined, size-gone, total-take, total-up}
+use Rattle.fragments.proofs.Pool.{B, cut-cons, cut-take, size-gone}
 use Rattle.fragments.proofs.Seen.{while-length}
 use Rattle.fragment_sets.proofs.Seen.{within-cut, complete-cut}
 use Rattle.reassembly_state.specs.Limits.{fragsMost}
-use Rattle.reassembly_state.specs.Model.{Queue, queue, held, endless, readySet, movedOn, Turn, firstSsn, firstPpi, orderedTurn, finishedTurn, turn, throughEnd, readable, Message, noMessage, messageOf, taken}
+use Rattle.reassembly_state.specs.Model.{Queue, queue, held, endless, readySet, movedOn, Turn, firstSsn, orderedTurn, finishedTurn, turn, throughEnd, readable, Message, noMessage, messageOf, taken}
 use Rattle.reassembly_state.specs.State.{State, count, fragments, view, counts, lay, reads, layTaken}
-use Rattle.reassembly_state.specs.Rows.{firstOrdered, orderedRows, InTurn, withoutMessage}
+use Rattle.reassembly_state.specs.Rows.{firstOrdered, orderedRows, InTurn, messageBy, withoutMessage}
 use Rattle.reassembly_state.specs.declared.Counts.{Counts}
 use Rattle.reassembly_state.proofs.Parts.{drop-take, gone-first, gone-last}
-use Rattle.reassembly_state.proofs.Laws.{Sound, held-view, segment-cut, segment-fits, finished-length, unordered-length, ordered-length, finished-cut, ordered-cut, size-held, lay-own}
-
--- ── a run of rows, by its first ──
-
-abbrev pub first : List Row → ℕ → Row
-first rows from = getD rows from blank
-
-run-cons : (rows : List Row) (from k : ℕ) → 0 < k → from < length rows → take k (drop from rows) ≡ first rows from ∷ take (k - 1) (drop (suc from) rows)
-run-cons rows from k h l = let e : k ≡ suc (k - 1) = omega arith in ap (λ (n : ℕ). take n (drop from rows)) e ∙ rw (drop-cons rows from blank l)
+use Rattle.reassembly_take.proofs.Messages.{first, run-cons, run-size}
+use Rattle.reassembly_state.proofs.Laws.{Sound, held-view, fragments-length, finished-length, unordered-length, ordered-length, finished-cut, ordered-cut, size-held, lay-own}
 
 pub ahead-front : (p : Row → Bool) (n : ℕ) (rows : List Row) → aheadOf p (take n rows) ≤ n
 ahead-front p n rows = let l : length (take n rows) ≤ n = rw length-take (omega arith) in omega (arith, ahead-within p (take n rows))
@@ -156,19 +149,12 @@ module _ (s : State) (few : count (s .queue) ≤ fragsMost) (full : length (s .r
       ap (λ (x : Turn). x .frags) (turn-ordered e) ∙ ordered-frags (readySet (q .«next_ssn») (view s .ordered)) ∙ r ∙ there in
       record { upward = omega arith; from = rw none (omega arith); within = rw none (omega arith); is = is }
 
--- ── what its fragments say, by their rows ──
+-- ── what is left without it ──
 
-first-ssn : (r : Row) (rs : List Row) (pool : List ℕ) → firstSsn (cut (r ∷ rs) pool) ≡ r .id % 65536
-unfolding cut firstSsn
-first-ssn r rs pool = refl
-
-first-ppi : (r : Row) (rs : List Row) (pool : List ℕ) → firstPpi (cut (r ∷ rs) pool) ≡ r .ppi
-unfolding cut firstPpi
-first-ppi r rs pool = refl
-
-moved-on : (e : ℕ) (r : Row) (rs : List Row) (pool : List ℕ) → movedOn e (cut (r ∷ rs) pool) ≡ cond (eqb (r .id % 65536) e) (next 16 e) e
-unfolding cut movedOn
-moved-on e r rs pool = refl
+moved-on : (e : ℕ) (m : List Frag) → 0 < length m → movedOn e m ≡ cond (eqb (firstSsn m) e) (next 16 e) e
+unfolding movedOn firstSsn
+moved-on e [] h = absurd (omega arith)
+moved-on e (x ∷ m) h = refl
 
 counts-are : (m : Queue) (f u o n : ℕ) → length (m .finished) ≡ f → length (m .unordered) ≡ u → length (m .ordered) ≡ o → size (held m) ≡ n
     → counts m ≡ record { si = m .si; «next_ssn» = m .next; «max_message_size» = m .max; finished = f; unordered = u; ordered = o; «n_bytes» = n }
@@ -198,9 +184,6 @@ module _ (s : State) (k : Sound s) (full : length (s .rows) ≡ fragsMost) (t : 
   abbrev message : List Frag
   message = turn (view s) .frags
 
-  abbrev behind : List ℕ
-  behind = drop (B (take (t .from) (s .rows))) (s .pool)
-
   pub turn-within : t .to ≤ count c
   turn-within = go (ltb 0 (c .finished)) (i .from) (i .within)
     where
@@ -208,42 +191,30 @@ module _ (s : State) (k : Sound s) (full : length (s .rows) ≡ fragsMost) (t : 
       go true e h = omega arith
       go false e h = omega arith
 
+  pub run-within : t .from + many ≤ count c
+  run-within = omega (arith, i .upward, turn-within)
+
   there : message ≡ take many (drop (t .from) (fragments s))
   there = i .is ∙ slice-run (t .from) (t .to) (fragments s) (i .upward)
 
-  seen : message ≡ cut (take many (drop (t .from) (s .rows))) behind
-  seen = there ∙ segment-cut (s .rows) (s .pool) (count c) (t .from) many (omega (arith, i .upward, turn-within))
-
   message-length : length message ≡ many
-  message-length =
-      ap length seen ∙ cut-length (take many (drop (t .from) (s .rows))) behind
-      ∙ length-take-le many (drop (t .from) (s .rows)) (rw length-drop (omega (arith, i .upward, turn-within, k .few)))
-
-  -- the bytes end within those that are held
-  pub message-end : B (take (t .from) (s .rows)) + bytes ≤ c .«n_bytes»
-  message-end = omega (arith, total-up (t .from) (t .to) (s .rows) (i .upward), total-take (t .to) (count c) (s .rows) turn-within, k .sums)
-
-  message-fits : bytes ≤ length behind
-  message-fits = segment-fits s k (t .from) many (omega (arith, i .upward, turn-within))
+  message-length = ap length there ∙ length-take-le many (drop (t .from) (fragments s)) (rw length-drop (omega (arith, run-within, fragments-length s (k .few) full)))
 
   message-size : size message ≡ bytes
-  message-size = ap size seen ∙ cut-size (take many (drop (t .from) (s .rows))) behind message-fits
-
-  message-bytes : joined message ≡ take bytes behind
-  message-bytes = ap joined seen ∙ cut-joined (take many (drop (t .from) (s .rows))) behind
+  message-size = ap size there ∙ run-size (s .rows) (s .pool) (count c) (t .from) many run-within (k .within)
 
   left-size : size (gone (t .from) many (fragments s)) ≡ c .«n_bytes» - bytes
   left-size = omega (arith, size-gone (fragments s) (t .from) many, size-held s k, ap size there, message-size)
 
-  -- the row of its first fragment
-  abbrev row : Row
-  row = first (s .rows) (t .from)
+  -- only an ordered one has its SSN
+  abbrev number : ℕ
+  number = cond (eqb (c .finished) 0) (firstSsn message) 0
 
   -- the queue without it: its counts, what it holds, and the SSN of the message
   record Left : Type 0 where
-    counts-is : counts (turn (view s) .queue) ≡ withoutMessage c many bytes (row .id % 65536)
+    counts-is : counts (turn (view s) .queue) ≡ withoutMessage c many bytes number
     held-is : held (turn (view s) .queue) ≡ gone (t .from) many (fragments s)
-    ssn-is : turn (view s) .ssn ≡ cond (eqb (c .finished) 0) (row .id % 65536) 0
+    ssn-is : turn (view s) .ssn ≡ number
 
   left-finished : 0 < c .finished → Left
   unfolding withoutMessage view finishedTurn
@@ -262,24 +233,18 @@ module _ (s : State) (k : Sound s) (full : length (s .rows) ≡ fragsMost) (t : 
       let counted = counts-are left (c .finished - many) (c .unordered) (c .ordered) (c .«n_bytes» - bytes) (rw (length-drop, f)) (unordered-length s (k .few) full) (ordered-length s (k .few) full) n in
       record { counts-is = ap counts rest ∙ counted ∙ rw some; held-is = holds; ssn-is = rw (is, ne-eqb (c .finished) 0 (λ z. omega arith)) }
 
-  opened : 0 < many → message ≡ cut (row ∷ take (many - 1) (drop (suc (t .from)) (s .rows))) behind
-  opened h = seen ∙ ap (λ (l : List Row). cut l behind) (run-cons (s .rows) (t .from) many h (omega (arith, turn-within, k .few)))
-
-  message-ppi : 0 < many → firstPpi message ≡ row .ppi
-  message-ppi h = ap firstPpi (opened h) ∙ first-ppi row (take (many - 1) (drop (suc (t .from)) (s .rows))) behind
-
   left-ordered : c .finished ≡ 0 → 0 < many → Left
   unfolding withoutMessage view orderedTurn
   left-ordered e h =
       let v = view s in
       let m = readySet (c .«next_ssn») (v .ordered) in
-      let others = take (many - 1) (drop (suc (t .from)) (s .rows)) in
       let none = le-ltb 0 (c .finished) (omega arith) in
       let from : t .from ≡ c .finished + c .unordered = rw none at (i .from) in
       let is = turn-ordered s (k .few) full e in
       let same : m ≡ message = ap (λ (x : Turn). x .frags) (sym is) in
-      let ssn : firstSsn m ≡ row .id % 65536 = ap firstSsn (same ∙ opened h) ∙ first-ssn row others behind in
-      let on = ap (movedOn (c .«next_ssn»)) (same ∙ opened h) ∙ moved-on (c .«next_ssn») row others behind in
+      let on : movedOn (c .«next_ssn») m ≡ cond (eqb (firstSsn message) (c .«next_ssn»)) (next 16 (c .«next_ssn»)) (c .«next_ssn») =
+      ap (movedOn (c .«next_ssn»)) same ∙ moved-on (c .«next_ssn») message (rw message-length h) in
+      let numbered : number ≡ firstSsn message = rw (eq-eqb (c .finished) 0 e) in
       let rest = ap (λ (x : Turn). x .queue) is ∙ ordered-rest v m many (ap length same ∙ message-length) in
       let f = finished-length s (k .few) full in
       let u = unordered-length s (k .few) full in
@@ -290,7 +255,7 @@ module _ (s : State) (k : Sound s) (full : length (s .rows) ≡ fragsMost) (t : 
       let n = ap size (sym (ap held rest) ∙ holds) ∙ left-size in
       let left = queue (v .si) (movedOn (v .next) m) (v .max) (v .finished) (v .unordered) (drop many (v .ordered)) in
       let counted = counts-are left (c .finished) (c .unordered) (c .ordered - many) (c .«n_bytes» - bytes) f u (rw (length-drop, o)) n in
-      record { counts-is = ap counts rest ∙ counted ∙ rw (none, on); held-is = holds; ssn-is = rw (is, eq-eqb (c .finished) 0 e) ssn }
+      record { counts-is = ap counts rest ∙ counted ∙ rw (none, on, numbered); held-is = holds; ssn-is = ap (λ (x : Turn). x .ssn) is ∙ ap firstSsn same ∙ sym numbered }
 
   left : 0 < many → Left
   left h = go (decLe 1 (c .finished))
@@ -321,18 +286,15 @@ module _ (s : State) (k : Sound s) (full : length (s .rows) ≡ fragsMost) (t : 
     unfolding taken
     takes-none h l = rw (comes h, message-size, lt-ltb (length buffer) bytes l, lay-own s k full)
 
-    -- the calls' answers: the row of its first fragment, the places of its bytes, the message in hand, and what is left of each
-    pub takes-whole : (r : Row) (off n : ℕ) (m : Message) (q : Counts) (rows : List Row) (pool out : List ℕ)
-        → 0 < many → r ≡ row → off ≡ B (take (t .from) (s .rows)) → n ≡ bytes → n ≤ length buffer
-        → m ≡ record { comes = true; ssn = cond (eqb (c .finished) 0) (r .id % 65536) 0; ppi = r .ppi; size = n; position = 0; given = false }
-        → q ≡ withoutMessage c many n (r .id % 65536)
-        → rows ≡ layRows (gone (t .from) many (fragments s)) (s .rows)
-        → pool ≡ layBytes (gone (t .from) many (fragments s)) (s .pool)
-        → out ≡ over buffer (take (off + n - off) (drop off (s .pool)))
+    -- the calls' answers: the message in hand, and what is left of each
+    pub takes-whole : 0 < many → {n : ℕ} → n ≡ bytes → n ≤ length buffer
+        → {m : Message} → m ≡ messageBy (eqb (c .finished) 0) (take many (drop (t .from) (fragments s)))
+        → {q : Counts} → q ≡ withoutMessage c many n (m .ssn)
+        → {rows : List Row} → rows ≡ layRows (gone (t .from) many (fragments s)) (s .rows)
+        → {pool : List ℕ} → pool ≡ layBytes (gone (t .from) many (fragments s)) (s .pool)
+        → {out : List ℕ} → out ≡ over buffer (joined (take many (drop (t .from) (fragments s))))
         → reads (says none m) (record { queue = q; rows = rows; pool = pool }) out ≡ layTaken s (taken (view s) buffer)
-    unfolding taken lay messageOf
-    takes-whole r off n m q rows pool out h is-r is-off is-n l is-m is-q is-rows is-pool is-out =
+    unfolding taken lay messageOf messageBy
+    takes-whole h is-n l is-m is-q is-rows is-pool is-out =
         let x = left h in
-        let e : off + n - off ≡ n = omega arith in
-        let b : bytes ≤ length buffer = omega arith in
-        rw (is-m, is-q, is-rows, is-pool, is-out, e, is-r, is-off, is-n, comes h, message-size, le-ltb (length buffer) bytes b, x .counts-is, x .held-is, x .ssn-is, message-ppi h, message-bytes)
+        rw (is-q, is-m, is-rows, is-pool, is-out, is-n, ← there, comes h, message-size, le-ltb (length buffer) bytes (omega arith), x .counts-is, x .held-is, x .ssn-is)

@@ -2,14 +2,20 @@
 ghost use mathlib.Core.Path.{_≡_};
 ghost use mathlib.Core.List.{List};
 ghost use mathlib.Core.Bool.{true, false, cond};
-ghost use Prim.Native.Nat.{ℕ, _+_, _*_, _≤_};
+ghost use Prim.Native.Nat.{ℕ, suc, _+_, _*_, _≤_, _<_, min};
 ghost use lib.Dec.{ltb};
-ghost use lib.ListN.{length, take};
+ghost use lib.ListN.{length, take, drop};
+ghost use Rattle.wire.specs.BigEndian.{over};
+ghost use Rattle.moves.specs.Lists.{gone};
+ghost use Rattle.table.specs.Rows.{rowsOf, total, aheadOf};
+ghost use Rattle.fragments.specs.Frag.{ends, longLength, ofRow};
+ghost use Rattle.fragments.specs.Words.{joined};
+ghost use Rattle.fragments.specs.Pool.{cut, layRows, layBytes};
 ghost use Rattle.chunks.specs.Message.{flagTold};
 ghost use Rattle.reassembly_state.specs.Limits.{fragsMost};
 ghost use Rattle.reassembly_state.specs.Model.{readySet, taken};
 ghost use Rattle.reassembly_state.specs.State.{stateOf, unsound, count, view, isReadable, reads, read, layTaken};
-ghost use Rattle.reassembly_state.specs.Rows.{InTurn, withoutMessage};
+ghost use Rattle.reassembly_state.specs.Rows.{InTurn, oldest, messageBy, out, takenOut, withoutMessage};
 ghost use Rattle.reassembly_state.specs.Answers.{messageHeld, tookTold};
 use chunks::Chunks;
 use chunks::Flag;
@@ -20,8 +26,15 @@ use reassembly_state::Taken;
 use reassembly_state::Took;
 use reassembly_state::WORDS;
 
+// What taking a message from among other fragments answers, and how many fragments and bytes went: none where it is refused.
+pub struct Among {
+    pub answer: Took,
+    pub k: usize,
+    pub size: usize,
+}
+
 // How many rows the first ordered set has, if it can be taken; else 0.
-fn ready(queue: Counts, table: &[u32]) -> usize
+pub fn ready(queue: Counts, table: &[u32]) -> usize
     requires { ⌜ length (now table) ≡ 4 * fragsMost ⌝ }
     requires { ⌜ count queue ≤ fragsMost ⌝ }
     ensures { λ r. ⌜ (r ≤ queue .ordered) × ((pool : List ℕ) → readySet (queue .«next_ssn») (view (stateOf queue (now (table .entry)) pool) .ordered) ≡ take r (view (stateOf queue (now (table .entry)) pool) .ordered)) ⌝ }
@@ -42,6 +55,19 @@ fn ready(queue: Counts, table: &[u32]) -> usize
     0
 }
 
+// How many of the n rows from one on the oldest finished message has: through the first E; where there is none, all.
+fn oldest_finished(table: &[u32], from: usize, n: usize) -> usize
+    requires { ⌜ length (now table) ≡ 4 * fragsMost ⌝ }
+    requires { ⌜ from + n ≤ fragsMost ⌝ }
+    ensures { λ r. ⌜ r ≡ min (suc (aheadOf (ofRow ends) (take n (drop from (rowsOf fragsMost (now (table .entry))))))) n ⌝ }
+{
+    let end = fragment_sets::find_end(table, FRAGMENTS, from, n) + 1;
+    if end <= n {
+        return end;
+    }
+    n
+}
+
 // Where it stands among the held fragments; an empty run where there is none.
 fn in_turn(queue: Counts, table: &[u32]) -> Span
     requires { ⌜ length (now table) ≡ 4 * fragsMost ⌝ }
@@ -49,14 +75,8 @@ fn in_turn(queue: Counts, table: &[u32]) -> Span
     ensures { λ r. ⌜ ((pool : List ℕ) → InTurn (stateOf queue (now (table .entry)) pool) r) ⌝ }
 {
     if 0 < queue.finished {
-        let end = fragment_sets::find_end(table, FRAGMENTS, 0, queue.finished) + 1;
-        if end <= queue.finished {
-            return Span { from: 0, to: end };
-        }
-        return Span {
-            from: 0,
-            to: queue.finished,
-        };
+        let to = oldest_finished(table, 0, queue.finished);
+        return Span { from: 0, to };
     }
     let from = queue.unordered;
     let run = ready(queue, table);
@@ -102,8 +122,42 @@ fn in_hand(ordered: bool, ssn: u16, ppi: u32, size: usize) -> Chunks
     }
 }
 
-// Takes it to the front of the lent buffer.
-fn take(queue: Counts, table: &mut [u32], pool: &mut [u8], buffer: &mut [u8]) -> Taken
+// Takes the k fragments at index from out of those held, a message whose bytes stand from `off` on, to the front of the lent buffer.
+fn take_run(
+    table: &mut [u32],
+    pool: &mut [u8],
+    buffer: &mut [u8],
+    held: usize,
+    bytes: usize,
+    from: usize,
+    k: usize,
+    off: usize,
+    size: usize,
+    ordered: bool,
+) -> Chunks
+    requires { ⌜ length (now table) ≡ 4 * fragsMost ⌝ }
+    requires { ⌜ held ≤ fragsMost ⌝ }
+    requires { ⌜ from + k ≤ held ⌝ }
+    requires { ⌜ 0 < k ⌝ }
+    requires { ⌜ total longLength (take held (rowsOf fragsMost (now table))) ≡ bytes ⌝ }
+    requires { ⌜ bytes ≤ length (now pool) ⌝ }
+    requires { ⌜ off ≡ total longLength (take from (rowsOf fragsMost (now table))) ⌝ }
+    requires { ⌜ size ≡ total longLength (take k (drop from (rowsOf fragsMost (now table)))) ⌝ }
+    requires { ⌜ size ≤ length (now buffer) ⌝ }
+    ensures { λ r. ⌜ messageHeld r ≡ messageBy ordered (take k (drop from (cut (take held (rowsOf fragsMost (now (table .entry)))) (now (pool .entry))))) ⌝ }
+    ensures { λ _. ⌜ rowsOf fragsMost (now (table .exit)) ≡ layRows (gone from k (cut (take held (rowsOf fragsMost (now (table .entry)))) (now (pool .entry)))) (rowsOf fragsMost (now (table .entry))) ⌝ }
+    ensures { λ _. ⌜ now (pool .exit) ≡ layBytes (gone from k (cut (take held (rowsOf fragsMost (now (table .entry)))) (now (pool .entry)))) (now (pool .entry)) ⌝ }
+    ensures { λ _. ⌜ now (buffer .exit) ≡ over (now (buffer .entry)) (joined (take k (drop from (cut (take held (rowsOf fragsMost (now (table .entry)))) (now (pool .entry)))))) ⌝ }
+{
+    wire::put_bytes(buffer, &pool[off..off + size]);
+    let first = table::row_at(table, FRAGMENTS, from);
+    fragments::close_fragments(table, FRAGMENTS, held, pool, bytes, from, k, off, size);
+    let ssn = (first.id % 65536) as u16;
+    in_hand(ordered, ssn, first.ppi, size)
+}
+
+// Takes the message in turn to the front of the lent buffer.
+pub fn take(queue: Counts, table: &mut [u32], pool: &mut [u8], buffer: &mut [u8]) -> Taken
     requires { ⌜ length (now table) ≡ 4 * fragsMost ⌝ }
     requires { ⌜ unsound (stateOf queue (now table) (now pool)) ≡ false ⌝ }
     ensures { λ r. ⌜ reads (tookTold (r .answer)) (stateOf (r .queue) (now (table .exit)) (now (pool .exit))) (now (buffer .exit)) ≡ layTaken (stateOf queue (now (table .entry)) (now (pool .entry))) (taken (view (stateOf queue (now (table .entry)) (now (pool .entry)))) (now (buffer .entry))) ⌝ }
@@ -125,25 +179,98 @@ fn take(queue: Counts, table: &mut [u32], pool: &mut [u8], buffer: &mut [u8]) ->
         };
     }
     let off = fragments::sum_long(table, FRAGMENTS, 0, from);
-    wire::put_bytes(buffer, &pool[off..off + size]);
-    let first = table::row_at(table, FRAGMENTS, from);
-    let ssn = (first.id % 65536) as u16;
     let held = queue.finished + (queue.unordered + queue.ordered);
-    fragments::close_fragments(
+    let bytes = queue.n_bytes;
+    let ordered = queue.finished == 0;
+    let hand = take_run(
         table,
-        FRAGMENTS,
-        held,
         pool,
-        queue.n_bytes,
+        buffer,
+        held,
+        bytes,
         from,
         k,
         off,
         size,
+        ordered,
     );
     Taken {
-        answer: Took::Message(in_hand(queue.finished == 0, ssn, first.ppi, size)),
-        queue: without(queue, k, size, ssn),
+        answer: Took::Message(hand),
+        queue: without(queue, k, size, hand.ssn),
     }
+}
+
+// Takes the k fragments at index from out of all those held, of so many bytes, `off` of them ahead of the message, to the front of the lent buffer;
+// 10 where that is too short. Fragments of others may stand before and behind.
+pub fn take_among(
+    table: &mut [u32],
+    pool: &mut [u8],
+    buffer: &mut [u8],
+    held: usize,
+    bytes: usize,
+    from: usize,
+    k: usize,
+    off: usize,
+    ordered: bool,
+) -> Among
+    requires { ⌜ length (now table) ≡ 4 * fragsMost ⌝ }
+    requires { ⌜ held ≤ fragsMost ⌝ }
+    requires { ⌜ from + k ≤ held ⌝ }
+    requires { ⌜ 0 < k ⌝ }
+    requires { ⌜ total longLength (take held (rowsOf fragsMost (now table))) ≡ bytes ⌝ }
+    requires { ⌜ bytes ≤ length (now pool) ⌝ }
+    requires { ⌜ off ≡ total longLength (take from (rowsOf fragsMost (now table))) ⌝ }
+    ensures { λ r. ⌜ out (tookTold (r .answer)) (r .k) (r .size) (rowsOf fragsMost (now (table .exit))) (now (pool .exit)) (now (buffer .exit)) ≡ takenOut ordered from k (cut (take held (rowsOf fragsMost (now (table .entry)))) (now (pool .entry))) (rowsOf fragsMost (now (table .entry))) (now (pool .entry)) (now (buffer .entry)) ⌝ }
+{
+    let size = fragments::sum_long(table, FRAGMENTS, from, k);
+    if buffer.len() < size {
+        return Among {
+            answer: Took::Refused(10),
+            k: 0,
+            size: 0,
+        };
+    }
+    let hand = take_run(
+        table,
+        pool,
+        buffer,
+        held,
+        bytes,
+        from,
+        k,
+        off,
+        size,
+        ordered,
+    );
+    Among {
+        answer: Took::Message(hand),
+        k,
+        size,
+    }
+}
+
+// Takes the oldest of the finished messages at index from.
+pub fn take_finished(
+    table: &mut [u32],
+    pool: &mut [u8],
+    buffer: &mut [u8],
+    held: usize,
+    bytes: usize,
+    from: usize,
+    finished: usize,
+    off: usize,
+) -> Among
+    requires { ⌜ length (now table) ≡ 4 * fragsMost ⌝ }
+    requires { ⌜ held ≤ fragsMost ⌝ }
+    requires { ⌜ from + finished ≤ held ⌝ }
+    requires { ⌜ 0 < finished ⌝ }
+    requires { ⌜ total longLength (take held (rowsOf fragsMost (now table))) ≡ bytes ⌝ }
+    requires { ⌜ bytes ≤ length (now pool) ⌝ }
+    requires { ⌜ off ≡ total longLength (take from (rowsOf fragsMost (now table))) ⌝ }
+    ensures { λ r. ⌜ out (tookTold (r .answer)) (r .k) (r .size) (rowsOf fragsMost (now (table .exit))) (now (pool .exit)) (now (buffer .exit)) ≡ takenOut false from (oldest (take finished (drop from (cut (take held (rowsOf fragsMost (now (table .entry)))) (now (pool .entry)))))) (cut (take held (rowsOf fragsMost (now (table .entry)))) (now (pool .entry))) (rowsOf fragsMost (now (table .entry))) (now (pool .entry)) (now (buffer .entry)) ⌝ }
+{
+    let k = oldest_finished(table, from, finished);
+    take_among(table, pool, buffer, held, bytes, from, k, off, false)
 }
 
 // Whether a message can be taken.

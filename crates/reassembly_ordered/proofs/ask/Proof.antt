@@ -1,7 +1,6 @@
 -- `reassembly_ordered::ask` meets its contract: the passes find the set, and the four questions are asked in their order.
 -- Assumes nothing.
 use mathlib.Core.Path.{_≡_, sym, _∙_}
-use mathlib.Core.Bool.{false}
 use mathlib.Core.List.{List, []}
 use Prim.Native.Nat.{ℕ, _+_, _*_, _<_, _≤_}
 use borrow.Author.Needs.{needs}
@@ -10,7 +9,7 @@ use borrow.Author.Tests.{not-true, not-false}
 use lib.ListN.{length}
 use Rattle.table.proofs.Columns.{rows-long}
 use Rattle.reassembly_state.specs.Limits.{fragsMost}
-use Rattle.reassembly_state.specs.State.{State, stateOf, unsound, count}
+use Rattle.reassembly_state.specs.State.{State, stateOf, count}
 use Rattle.reassembly_state.specs.Rows.{firstOrdered, setAt, setRun}
 use Rattle.reassembly_state.proofs.Laws.{sound}
 use Rattle.reassembly_ordered.proofs.Sets.{ahead-fits, run-fits, set-found, asks-large, asks-old, asks-again, asks-crowded, asks-kept, told-so}

@@ -1,17 +1,15 @@
--- `reassembly_take::in_turn` meets its contract: a finished message goes through the first E, and else the first ordered set comes.
+-- `reassembly_take::in_turn` meets its contract: the oldest finished message comes first, and else the first ordered set.
 -- Assumes nothing.
 use mathlib.Core.Path.{_≡_}
 use mathlib.Core.List.{List}
-use Prim.Native.Nat.{ℕ, _+_}
+use Prim.Native.Nat.{ℕ}
 use borrow.Author.Needs.{needs}
 use native.Mathlib.Omega.{arith}
 use lib.ListN.{length}
-use Rattle.table.specs.Rows.{rowsOf}
-use Rattle.fragments.specs.Frag.{ends, ofRow}
 use Rattle.table.proofs.Columns.{rows-long}
 use Rattle.reassembly_state.specs.Limits.{fragsMost}
 use Rattle.reassembly_state.specs.State.{State, stateOf}
-use Rattle.reassembly_take.proofs.Turn.{ahead-front, finished-turn, ordered-turn}
+use Rattle.reassembly_take.proofs.Turn.{finished-turn, ordered-turn}
 use Rattle.reassembly_take.proofs.in_turn.Statement.{statement}
 use Rattle.reassembly_take.proofs.in_turn.Tie as tie
 
@@ -22,33 +20,17 @@ of c pool = stateOf (c .args .queue) (c .args .table .now) pool
 full : (c : tie.Start) → (pool : List ℕ) → length (of c pool .rows) ≡ fragsMost
 full c pool = rows-long fragsMost (c .args .table .now) (c .pre .0)
 
-fits : tie.Need-add-end
-fits c =
-    let a = c .before .before .before .before .args in
-    let within = ahead-front (ofRow ends) (a .queue .finished) (rowsOf fragsMost (a .table .now)) in
-    search needs
-
-ended : tie.Need-returns
-ended c =
-    let f = c .before .before in
-    let t = f .before in
+oldest : tie.Need-returns
+oldest c =
+    let t = c .before in
     let s = t .before .before .before in
-    λ pool. finished-turn (of s pool) (s .pre .1) (full s pool) (f .find-end .result + 1) (t .if1 .taken) (omega (arith, f .find-end .ensures, c .if2 .taken))
+    λ pool. finished-turn (of s pool) (s .pre .1) (full s pool) (c .oldest-finished .result) (t .if1 .taken) (c .oldest-finished .ensures)
 
-unended : tie.Need-returns-2
-unended c =
-    let f = c .before .before in
-    let t = f .before in
-    let s = t .before .before .before in
-    λ pool. finished-turn (of s pool) (s .pre .1) (full s pool) (s .args .queue .finished) (t .if1 .taken) (omega (arith, f .find-end .ensures, c .if2 .left))
-
-set : tie.Need-returns-3
+set : tie.Need-returns-2
 set c =
     let e = c .before in
     let s = e .before .before .before in
     λ pool. ordered-turn (of s pool) (s .pre .1) (full s pool) (c .ready .result) (omega (arith, e .if1 .left)) (c .ready .ensures .0) (c .ready .ensures .1 pool)
 
 pub in-turn-spec : {M : Type 1} → statement M
-in-turn-spec =
-    tie.close
-    (tie.spec (λ c κs. search needs) fits ended unended (λ c κs. search needs) (λ c. search needs) set)
+in-turn-spec = tie.close (tie.spec (λ c κs. search needs) oldest (λ c κs. search needs) (λ c. search needs) set)
