@@ -5,7 +5,7 @@ use mathlib.Core.Bool.{true, false, _||_}
 use mathlib.Core.List.{List, [], _∷_, map}
 use mathlib.Core.Option as option
 use mathlib.Core.Option.{Option, some}
-use Prim.Native.Nat.{ℕ}
+use Prim.Native.Nat.{ℕ, _≤_}
 use lib.ListN.{length}
 use Rattle.wire.specs.Refusal.{none, Told, says}
 use Rattle.serial.specs.Serial.{before}
@@ -14,9 +14,9 @@ use Rattle.fragment_sets.specs.Sets.{sets}
 use Rattle.set_reach.specs.Kept.{someSet, ssnsOf, highest}
 use Rattle.set_reach.proofs.Blind.{Blind, blind-cut, ssn-blind, reached-blind, some-set-blind, ssns-blind}
 use Rattle.reassembly_state.specs.Limits.{fragsMost}
-use Rattle.reassembly_state.specs.State.{State, view}
+use Rattle.reassembly_state.specs.State.{State, count, view}
 use Rattle.reassembly_state.specs.Rows.{orderedRows}
-use Rattle.reassembly_state.proofs.Laws.{Sound, ordered-cut, view-next}
+use Rattle.reassembly_state.proofs.Laws.{ordered-cut, view-next}
 use Rattle.reassembly_applicable.specs.Applicable.{settles, tsnsFrom, resolved, appliesWhole, firstUpTo, endsPart, applies, Found, foundIn}
 
 settles-blind : (expected s t : ℕ) → Blind (settles expected s t)
@@ -38,13 +38,13 @@ tsns-blind s (x ∷ xs) = rw (tsns-blind s xs)
 resolved-blind : (s p : ℕ) → Blind (resolved s p)
 resolved-blind s p l = rw (tsns-blind s l)
 
-module _ (q : State) (ok : Sound q) (full : length (q .rows) ≡ fragsMost) (s t p : ℕ) where
+module _ (q : State) (few : count (q .queue) ≤ fragsMost) (full : length (q .rows) ≡ fragsMost) (s t p : ℕ) where
   abbrev expected : ℕ
   expected = q .queue .«next_ssn»
 
   -- what looks at no byte of the ordered sets is seen in their rows
   seen : {A : Type 0} {f : List Frag → A} → Blind f → f (map bare (orderedRows q)) ≡ f (view q .ordered)
-  seen {f = f} b = sym (ap f (ordered-cut q (ok .few) full) ∙ blind-cut b (orderedRows q) _)
+  seen {f = f} b = sym (ap f (ordered-cut q few full) ∙ blind-cut b (orderedRows q) _)
 
   abbrev Answers : Option ℕ → Type 0
   Answers o = says none (foundIn o) ≡ says none (foundIn (applies (view q) s t p))

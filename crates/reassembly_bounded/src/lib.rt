@@ -1,6 +1,6 @@
 // An ordered skip held over a stream reset: it drops what the cumulative point reaches, and carries the expected SSN no further than that.
 ghost use mathlib.Core.Path.{_≡_};
-ghost use mathlib.Core.Bool.{cond};
+ghost use mathlib.Core.Bool.{false, cond};
 ghost use Prim.Native.Nat.{_+_, _*_, _≤_, _<_};
 ghost use mathlib.Core.List.{map};
 ghost use lib.ListN.{length, take, drop};
@@ -9,8 +9,8 @@ ghost use Rattle.table.specs.Rows.{rowsOf};
 ghost use Rattle.fragments.specs.Frag.{bare};
 ghost use Rattle.reassembly_state.specs.Limits.{fragsMost};
 ghost use Rattle.reassembly_state.specs.Answers.{doneTold};
-ghost use Rattle.reassembly_state.specs.State.{stateOf, after};
-ghost use Rattle.reassembly_bounded.specs.Bounded.{heldBack, limit, forwardBounded};
+ghost use Rattle.reassembly_state.specs.State.{stateOf, unsound, view, lay, after};
+ghost use Rattle.reassembly_bounded.specs.Bounded.{heldBack, limit, skipBounded, forwardBounded};
 use reassembly_state::Counts;
 use reassembly_state::Done;
 use reassembly_state::FRAGMENTS;
@@ -69,6 +69,35 @@ fn limit(table: &[u32], from: usize, n: usize, last_ssn: u16, tsn: u32) -> u16
     serial::ssn_next(last_ssn)
 }
 
+// Of a sound queue drops incomplete sets at or before an SSN that a cumulative point reaches, and expects the first set that it does not reach, or the SSN after
+// the last, where that is later than what is expected.
+pub fn skip_bounded(
+    counts: Counts,
+    table: &mut [u32],
+    pool: &mut [u8],
+    last_ssn: u16,
+    new_cumulative_tsn: u32,
+) -> Counts
+    requires { ⌜ length (now table) ≡ 4 * fragsMost ⌝ }
+    requires { ⌜ unsound (stateOf counts (now table) (now pool)) ≡ false ⌝ }
+    ensures { λ r. ⌜ stateOf r (now (table .exit)) (now (pool .exit)) ≡ lay (skipBounded (view (stateOf counts (now (table .entry)) (now (pool .entry)))) «last_ssn» «new_cumulative_tsn») (stateOf counts (now (table .entry)) (now (pool .entry))) ⌝ }
+{
+    let from = counts.finished + counts.unordered;
+    let next = limit(table, from, counts.ordered, last_ssn, new_cumulative_tsn);
+    let mut queue = reassembly_forward::drop_sets(
+        counts,
+        table,
+        pool,
+        last_ssn,
+        true,
+        new_cumulative_tsn,
+    );
+    if serial::sna16lt(queue.next_ssn, next) {
+        queue.next_ssn = next;
+    }
+    queue
+}
+
 // Drops incomplete sets at or before an SSN that a cumulative point reaches, and expects the first set that it does not reach, or the SSN after
 // the last, where that is later than what is expected.
 pub fn forward_tsn_for_ordered_bounded(
@@ -86,25 +115,8 @@ pub fn forward_tsn_for_ordered_bounded(
             queue: counts,
         };
     }
-    let from = counts.finished + counts.unordered;
-    let next = limit(table, from, counts.ordered, last_ssn, new_cumulative_tsn);
-    let mut queue = reassembly_forward::drop_sets(
-        counts,
-        table,
-        pool,
-        last_ssn,
-        true,
-        new_cumulative_tsn,
-    );
-    if serial::sna16lt(queue.next_ssn, next) {
-        queue.next_ssn = next;
-        return Forwarded {
-            answer: Done::All,
-            queue,
-        };
-    }
     Forwarded {
         answer: Done::All,
-        queue,
+        queue: skip_bounded(counts, table, pool, last_ssn, new_cumulative_tsn),
     }
 }

@@ -37,13 +37,13 @@ module _ (s : State) (k : Sound s) (full : length (s .rows) ≡ fragsMost) (t : 
   stays : past (notAfter t) (view s .unordered) ≡ drop passed (view s .unordered)
   stays = rw (unordered-cut s (k .few) full) (past-cut (notAfter t) (ofRow (tsnAfter t)) (λ r bs. refl) (looseRows q (s .rows)) _)
 
-  pub passed-held : held (skipUnordered (view s) t) ≡ gone (q .finished) passed (fragments s)
+  passed-held : held (skipUnordered (view s) t) ≡ gone (q .finished) passed (fragments s)
   unfolding skipUnordered
   passed-held =
       let h : passed ≤ length (view s .unordered) = rw (unordered-length s (k .few) full) passed-few in
       rw (stays, gone-middle (view s .finished) (view s .unordered) (view s .ordered) passed h, held-view s, finished-length s (k .few) full)
 
-  pub passed-size : size (held (skipUnordered (view s) t)) ≡ q .«n_bytes» - B (take passed (drop (q .finished) (s .rows)))
+  passed-size : size (held (skipUnordered (view s) t)) ≡ q .«n_bytes» - B (take passed (drop (q .finished) (s .rows)))
   passed-size =
       let h = passed-few in
       let e = size-gone (fragments s) (q .finished) passed in
@@ -51,7 +51,7 @@ module _ (s : State) (k : Sound s) (full : length (s .rows) ≡ fragsMost) (t : 
       let g = size-held s k in
       rw passed-held (omega arith)
 
-  pub passed-bytes : B (take passed (drop (q .finished) (s .rows))) ≤ q .«n_bytes»
+  passed-bytes : B (take passed (drop (q .finished) (s .rows))) ≤ q .«n_bytes»
   passed-bytes =
       let h = passed-few in
       let e = size-gone (fragments s) (q .finished) passed in
@@ -59,25 +59,36 @@ module _ (s : State) (k : Sound s) (full : length (s .rows) ≡ fragsMost) (t : 
       let g = size-held s k in
       omega arith
 
-  abbrev pub without : Counts
-  without =
+  -- the counts without n of them, of so many bytes
+  abbrev without : ℕ → ℕ → Counts
+  without n bytes =
       record {
         si = q .si;
         «next_ssn» = q .«next_ssn»;
         «max_message_size» = q .«max_message_size»;
         finished = q .finished;
-        unordered = q .unordered - passed;
+        unordered = q .unordered - n;
         ordered = q .ordered;
-        «n_bytes» = q .«n_bytes» - B (take passed (drop (q .finished) (s .rows)));
+        «n_bytes» = q .«n_bytes» - bytes;
       }
 
-  passed-counts : counts (skipUnordered (view s) t) ≡ without
+  abbrev left : Counts
+  left = without passed (B (take passed (drop (q .finished) (s .rows))))
+
+  passed-counts : counts (skipUnordered (view s) t) ≡ left
   unfolding skipUnordered
   passed-counts =
       let few = unordered-length s (k .few) full in
-      let left : length (past (notAfter t) (view s .unordered)) ≡ q .unordered - passed = rw (stays, length-drop) (omega arith) in
-      counts-by (skipUnordered (view s) t) without (view-si s) (view-next s) (view-max s) (finished-length s (k .few) full) left (ordered-length s (k .few) full) passed-size
+      let long : length (past (notAfter t) (view s .unordered)) ≡ q .unordered - passed = rw (stays, length-drop) (omega arith) in
+      counts-by (skipUnordered (view s) t) left (view-si s) (view-next s) (view-max s) (finished-length s (k .few) full) long (ordered-length s (k .few) full) passed-size
 
-  pub passed-laid : {rows : List Row} {pool : List ℕ} → rows ≡ layRows (gone (q .finished) passed (fragments s)) (s .rows) → pool ≡ layBytes (gone (q .finished) passed (fragments s)) (s .pool)
-      → _≡_ {A = State} (record { queue = without; rows = rows; pool = pool }) (lay (skipUnordered (view s) t) s)
-  passed-laid e f = laid-by (skipUnordered (view s) t) s without (gone (q .finished) passed (fragments s)) passed-counts passed-held e f
+  -- the calls' answers: how many go, and their bytes
+  module _ {n bytes : ℕ} (is-n : n ≡ passed) (is-bytes : bytes ≡ B (take n (drop (q .finished) (s .rows)))) where
+    pub freed-bytes : bytes ≤ q .«n_bytes»
+    freed-bytes = rw (is-bytes, is-n) passed-bytes
+
+    pub passed-laid : {rows : List Row} {pool : List ℕ} → rows ≡ layRows (gone (q .finished) n (fragments s)) (s .rows) → pool ≡ layBytes (gone (q .finished) n (fragments s)) (s .pool)
+        → _≡_ {A = State} (record { queue = without n bytes; rows = rows; pool = pool }) (lay (skipUnordered (view s) t) s)
+    passed-laid e f =
+        rw (is-bytes, is-n)
+        (laid-by (skipUnordered (view s) t) s left (gone (q .finished) passed (fragments s)) passed-counts passed-held (rw is-n at e) (rw is-n at f))

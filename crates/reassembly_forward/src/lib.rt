@@ -8,7 +8,7 @@ ghost use Rattle.table.specs.Rows.{rowsOf};
 ghost use Rattle.fragments.specs.Frag.{bare};
 ghost use Rattle.set_reach.specs.Kept.{stays, dropped};
 ghost use Rattle.reassembly_state.specs.Limits.{fragsMost};
-ghost use Rattle.reassembly_state.specs.Model.{withOrdered};
+ghost use Rattle.reassembly_state.specs.Model.{withOrdered, skipOrdered, skipUnordered};
 ghost use Rattle.reassembly_state.specs.Answers.{doneTold};
 ghost use Rattle.reassembly_state.specs.State.{stateOf, unsound, view, lay, after, forwardOrdered, forwardUnordered};
 use reassembly_state::Counts;
@@ -75,6 +75,40 @@ pub fn drop_sets(
     left
 }
 
+// Of a sound queue drops incomplete sets at or before an SSN, and expects the one after it.
+pub fn skip_ordered(counts: Counts, table: &mut [u32], pool: &mut [u8], last_ssn: u16) -> Counts
+    requires { ⌜ length (now table) ≡ 4 * fragsMost ⌝ }
+    requires { ⌜ unsound (stateOf counts (now table) (now pool)) ≡ false ⌝ }
+    ensures { λ r. ⌜ stateOf r (now (table .exit)) (now (pool .exit)) ≡ lay (skipOrdered (view (stateOf counts (now (table .entry)) (now (pool .entry)))) «last_ssn») (stateOf counts (now (table .entry)) (now (pool .entry))) ⌝ }
+{
+    let mut queue = drop_sets(counts, table, pool, last_ssn, false, 0);
+    if serial::sna16lte(queue.next_ssn, last_ssn) {
+        queue.next_ssn = serial::ssn_next(last_ssn);
+    }
+    queue
+}
+
+// Of a sound queue drops loose unordered fragments from the front up to the first one after a TSN.
+pub fn skip_unordered(
+    counts: Counts,
+    table: &mut [u32],
+    pool: &mut [u8],
+    new_cumulative_tsn: u32,
+) -> Counts
+    requires { ⌜ length (now table) ≡ 4 * fragsMost ⌝ }
+    requires { ⌜ unsound (stateOf counts (now table) (now pool)) ≡ false ⌝ }
+    ensures { λ r. ⌜ stateOf r (now (table .exit)) (now (pool .exit)) ≡ lay (skipUnordered (view (stateOf counts (now (table .entry)) (now (pool .entry)))) «new_cumulative_tsn») (stateOf counts (now (table .entry)) (now (pool .entry))) ⌝ }
+{
+    let count = counts.finished + (counts.unordered + counts.ordered);
+    let at = counts.finished;
+    let k = loose_fragments::find_after(table, FRAGMENTS, at, counts.unordered, new_cumulative_tsn);
+    let bytes = fragments::remove_fragments(table, FRAGMENTS, count, pool, counts.n_bytes, at, k);
+    let mut queue = counts;
+    queue.unordered = queue.unordered - k;
+    queue.n_bytes = queue.n_bytes - bytes;
+    queue
+}
+
 // Drops incomplete sets at or before an SSN, and expects the one after it.
 pub fn forward_tsn_for_ordered(
     counts: Counts,
@@ -90,17 +124,9 @@ pub fn forward_tsn_for_ordered(
             queue: counts,
         };
     }
-    let mut queue = drop_sets(counts, table, pool, last_ssn, false, 0);
-    if serial::sna16lte(queue.next_ssn, last_ssn) {
-        queue.next_ssn = serial::ssn_next(last_ssn);
-        return Forwarded {
-            answer: Done::All,
-            queue,
-        };
-    }
     Forwarded {
         answer: Done::All,
-        queue,
+        queue: skip_ordered(counts, table, pool, last_ssn),
     }
 }
 
@@ -119,15 +145,8 @@ pub fn forward_tsn_for_unordered(
             queue: counts,
         };
     }
-    let count = counts.finished + (counts.unordered + counts.ordered);
-    let at = counts.finished;
-    let k = loose_fragments::find_after(table, FRAGMENTS, at, counts.unordered, new_cumulative_tsn);
-    let bytes = fragments::remove_fragments(table, FRAGMENTS, count, pool, counts.n_bytes, at, k);
-    let mut queue = counts;
-    queue.unordered = queue.unordered - k;
-    queue.n_bytes = queue.n_bytes - bytes;
     Forwarded {
         answer: Done::All,
-        queue,
+        queue: skip_unordered(counts, table, pool, new_cumulative_tsn),
     }
 }
