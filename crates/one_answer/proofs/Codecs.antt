@@ -9,7 +9,7 @@ use lib.IntN.{ℤ}
 use lib.ListN.{length}
 use denote.Ref.{RefT}
 use Rattle.serial.specs.Serial.{next, ahead, distance, compared, before, after, atOrBefore, atOrAfter}
-use Rattle.serial.specs.declared.Order.{Order}
+use Rattle.serial_model.specs.declared.Order.{Order}
 use Rattle.wire.specs.Refusal.{Written, written}
 use Rattle.wire.proofs.Exists.{Bytes}
 use Rattle.chunk.specs.Header.{HeaderFront, headerChecks, kindChecks, headerTold, headerRead}
