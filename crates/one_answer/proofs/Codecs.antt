@@ -19,7 +19,7 @@ use Rattle.chunk.specs.declared.chunk_header.Unmarshalled as head
 use Rattle.chunk.specs.declared.Marshalled.{Marshalled}
 use Rattle.chunk_payload_data.specs.Data.{identifierNumber, identifierName, dataFlags, dataTold, DataFront, dataChecks, dataRead, userData, dataWritten}
 use Rattle.chunk_payload_data.specs.declared.ChunkPayloadData.{ChunkPayloadData}
-use Rattle.chunk_payload_data.specs.declared.PayloadProtocolIdentifier.{PayloadProtocolIdentifier}
+use Rattle.payload_identifier.specs.declared.PayloadProtocolIdentifier.{PayloadProtocolIdentifier}
 use Rattle.chunk_payload_data.specs.declared.Unmarshalled as «data»
 use Rattle.chunk_selective_ack.specs.Sack.{sackTold, SackFront, sackRead, blocksPart, duplicatesPart, BlockFront, blockTold, blockRead, TsnFront, tsnTold, tsnRead, sackWritten}
 use Rattle.chunk_selective_ack.specs.declared.Unmarshalled as sack

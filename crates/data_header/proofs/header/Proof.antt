@@ -1,13 +1,13 @@
--- `chunk_payload_data::header` meets its contract: the check for data stands behind those of the type.
+-- `data_header::header` meets its contract: the check for data stands behind those of the type.
 -- Assumes nothing.
 use borrow.Author.Needs.{needs}
 use borrow.Author.Tests.{eq-eqb, ne-eqb}
 use lib.ListN.{length}
 use Rattle.chunk.specs.Header.{kindChecks}
 use Rattle.chunk.proofs.Headers.{more-refused, more-failed, more-passed}
-use Rattle.chunk_payload_data.specs.Data.{dataOnly}
-use Rattle.chunk_payload_data.proofs.header.Statement.{statement}
-use Rattle.chunk_payload_data.proofs.header.Tie as tie
+use Rattle.data_header.specs.Checks.{dataOnly}
+use Rattle.data_header.proofs.header.Statement.{statement}
+use Rattle.data_header.proofs.header.Tie as tie
 
 refused : tie.Need-returns-2
 refused c =

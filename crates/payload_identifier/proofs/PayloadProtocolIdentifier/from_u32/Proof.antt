@@ -1,9 +1,9 @@
--- `chunk_payload_data::PayloadProtocolIdentifier::from_u32` meets its contract: each arm is a case of `identifierName`.
+-- `payload_identifier::PayloadProtocolIdentifier::from_u32` meets its contract: each arm is a case of `identifierName`.
 -- Assumes nothing.
 use borrow.Author.Tests.{ne-eqb}
-use Rattle.chunk_payload_data.specs.Data.{identifierName}
-use Rattle.chunk_payload_data.proofs.PayloadProtocolIdentifier.from_u32.Statement.{statement}
-use Rattle.chunk_payload_data.proofs.PayloadProtocolIdentifier.from_u32.Tie as tie
+use Rattle.payload_identifier.specs.Identifier.{identifierName}
+use Rattle.payload_identifier.proofs.PayloadProtocolIdentifier.from_u32.Statement.{statement}
+use Rattle.payload_identifier.proofs.PayloadProtocolIdentifier.from_u32.Tie as tie
 
 pub from-u32-spec : {M : Type 1} → statement M
 unfolding identifierName

@@ -1,14 +1,14 @@
--- `chunk_payload_data::user_data` meets its contract: the header decides what is refused, and else the part is what its length says.
+-- `data_header::user_data` meets its contract: the header decides what is refused, and else the part is what its length says.
 -- Assumes nothing.
 use mathlib.Core.Path.{ap}
 use Prim.Native.Nat.{_≤_}
 use borrow.Author.Needs.{needs}
 use lib.ListN.{length}
 use Rattle.chunk.specs.Layout.{Header}
-use Rattle.chunk_payload_data.specs.Data.{dataChecks, userData}
+use Rattle.data_header.specs.Checks.{dataChecks, userData}
 use Rattle.chunk.proofs.Headers.{told-refused, told-taken}
-use Rattle.chunk_payload_data.proofs.user_data.Statement.{statement}
-use Rattle.chunk_payload_data.proofs.user_data.Tie as tie
+use Rattle.data_header.proofs.user_data.Statement.{statement}
+use Rattle.data_header.proofs.user_data.Tie as tie
 
 refused : tie.Need-returns
 unfolding userData
