@@ -14,10 +14,10 @@ use Rattle.wire.proofs.Reading.{refused, accepted}
 use Rattle.fields.proofs.Entries.{entry-begins}
 use Rattle.chunk_forward_tsn.specs.Layout.{Pair, pair, pairBytes}
 use Rattle.chunk_forward_tsn.specs.ForwardTsn.{entryChecks, PairFront, pairTold, pairRead}
-use Rattle.chunk_forward_tsn.specs.declared.ChunkForwardTsnStream.{ChunkForwardTsnStream}
-use Rattle.chunk_forward_tsn.specs.declared.StreamAt.{StreamAt}
-use Rattle.chunk_forward_tsn.specs.declared.StreamAt.the-variants as streams
-use Rattle.chunk_forward_tsn.proofs.ForwardBytes.{pair-length, pair-entries}
+use Rattle.forward_tsn_entries.specs.declared.ChunkForwardTsnStream.{ChunkForwardTsnStream}
+use Rattle.forward_tsn_entries.specs.declared.StreamAt.{StreamAt}
+use Rattle.forward_tsn_entries.specs.declared.StreamAt.the-variants as streams
+use Rattle.forward_tsn_marshal.proofs.ForwardBytes.{pair-length, pair-entries}
 use Rattle.reassembly_state.specs.State.{State}
 use Rattle.forward_tsn.specs.Applied.{Pairs, pairSkipped, pairsSkipped}
 
