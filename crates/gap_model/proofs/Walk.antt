@@ -17,8 +17,8 @@ use Rattle.table.specs.Rows.{blank, rowsOf}
 use Rattle.table.specs.declared.Row.{Row}
 use Rattle.table.proofs.Columns.{rows-long}
 use Rattle.table.proofs.Scans.{tsn-at}
-use Rattle.gap_report.specs.Gap.{Block, block, counts, extend, taken, walk, blocks, tsnsOf, startsOf, endsOf, report, written}
-use Rattle.gap_report.specs.declared.Reported.the-variants.{Count, Short}
+use Rattle.gap_model.specs.Gap.{Block, block, counts, extend, taken, walk, blocks, tsnsOf, startsOf, endsOf, report, written}
+use Rattle.gap_model.specs.declared.Reported.the-variants.{Count, Short}
 
 -- ── which offsets count ──
 

@@ -1,13 +1,13 @@
--- `gap_report::following` meets its contract: after i turns i TSNs have followed one another (`Followed`).
+-- `gap_following::following` meets its contract: after i turns i TSNs have followed one another (`Followed`).
 -- Assumes nothing.
 use mathlib.Core.Path.{_≡_, refl}
 use mathlib.Core.Bool.{cond}
 use Prim.Native.Nat.{_+_, _-_, _≤_}
 use native.Mathlib.Omega.{arith}
 use lib.Dec.{ltb}
-use Rattle.gap_report.proofs.Follow.{Followed, followed-none, followed-here, followed-turn, followed-all, least-within}
-use Rattle.gap_report.proofs.following.Statement.{statement}
-use Rattle.gap_report.proofs.following.Tie as tie
+use Rattle.gap_model.proofs.Follow.{Followed, followed-none, followed-here, followed-turn, followed-all, least-within}
+use Rattle.gap_following.proofs.following.Statement.{statement}
+use Rattle.gap_following.proofs.following.Tie as tie
 
 abbrev Inv : tie.InvT-loop
 Inv table size from n room tsn tsns most want₀ i₀ want i =

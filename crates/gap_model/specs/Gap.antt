@@ -8,8 +8,8 @@ use lib.ListN.{length}
 use Rattle.serial.specs.Serial.{ahead}
 use Rattle.wire.specs.BigEndian.{over}
 use Rattle.table.specs.declared.Row.{Row}
-use Rattle.gap_report.specs.declared.Reported.{Reported}
-use Rattle.gap_report.specs.declared.Reported.the-variants.{Count, Short}
+use Rattle.gap_model.specs.declared.Reported.{Reported}
+use Rattle.gap_model.specs.declared.Reported.the-variants.{Count, Short}
 
 -- a run of TSNs, by the offsets of its first and its last
 pub record Block : Type 0 where

@@ -1,14 +1,14 @@
--- `gap_report::count_blocks` meets its contract: after i turns it has counted the blocks of the first i TSNs (`Seen`).
+-- `gap_blocks::count_blocks` meets its contract: after i turns it has counted the blocks of the first i TSNs (`Seen`).
 -- Assumes nothing.
 use mathlib.Core.List.{List, []}
 use mathlib.Core.Path.{sym, ap, _∙_}
 use Prim.Native.Nat.{_-_}
 use native.Mathlib.Omega.{arith}
 use lib.ListN.{length}
-use Rattle.gap_report.specs.Gap.{Block}
-use Rattle.gap_report.proofs.Walk.{Seen, seen-none, seen-skip, seen-open, seen-last, seen-grow, seen-all, low, high}
-use Rattle.gap_report.proofs.count_blocks.Statement.{statement}
-use Rattle.gap_report.proofs.count_blocks.Tie as tie
+use Rattle.gap_model.specs.Gap.{Block}
+use Rattle.gap_model.proofs.Walk.{Seen, seen-none, seen-skip, seen-open, seen-last, seen-grow, seen-all, low, high}
+use Rattle.gap_blocks.proofs.count_blocks.Statement.{statement}
+use Rattle.gap_blocks.proofs.count_blocks.Tie as tie
 
 abbrev Inv : tie.InvT-loop
 Inv table size n cumulative needed₀ want₀ i₀ needed want i = (bs : List Block) × Seen cumulative size n table i bs needed want

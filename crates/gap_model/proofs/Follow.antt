@@ -11,9 +11,9 @@ use lib.ListN.{length, getD, drop, set, length-append, length-drop, length-map, 
 use lib.Seq.{drop-cons, drop-drop, set-set}
 use borrow.Author.Tests.{eqb-true, eq-eqb, ne-eqb, ltb-true, ltb-false}
 use Rattle.serial.specs.Serial.{ahead, next}
-use Rattle.gap_report.specs.Gap.{Block, block, walk, endsOf}
-use Rattle.gap_report.specs.Adjacent.{adjacent}
-use Rattle.gap_report.proofs.Walk.{Seen, Put, held, held-at, held-long, last, grown, counted, walk-cons, want-snoc, wantFrom, over-last, put-grow}
+use Rattle.gap_model.specs.Gap.{Block, block, walk, endsOf}
+use Rattle.gap_model.specs.Adjacent.{adjacent}
+use Rattle.gap_model.proofs.Walk.{Seen, Put, held, held-at, held-long, last, grown, counted, walk-cons, want-snoc, wantFrom, over-last, put-grow}
 
 -- the TSN after one that counts is one offset on
 pub ahead-next : (cum t o : ℕ) → ahead 32 cum t ≡ o → o < 65536 → ahead 32 cum (next 32 t) ≡ o + 1

@@ -1,12 +1,12 @@
--- `gap_report::write_blocks` meets its contract: after i turns the blocks of the first i TSNs stand in front of both lists (`Put`).
+-- `gap_blocks::write_blocks` meets its contract: after i turns the blocks of the first i TSNs stand in front of both lists (`Put`).
 -- Assumes nothing.
 use Prim.Native.Nat.{_+_, _-_}
 use native.Mathlib.Omega.{arith}
 use borrow.Author.Needs.{needs}
-use Rattle.gap_report.proofs.Walk.{Put, put-none, put-room, put-skip, put-open, put-all, open-room, grow-room, low, high}
-use Rattle.gap_report.proofs.Follow.{put-follow, follow-few}
-use Rattle.gap_report.proofs.write_blocks.Statement.{statement}
-use Rattle.gap_report.proofs.write_blocks.Tie as tie
+use Rattle.gap_model.proofs.Walk.{Put, put-none, put-room, put-skip, put-open, put-all, open-room, grow-room, low, high}
+use Rattle.gap_model.proofs.Follow.{put-follow, follow-few}
+use Rattle.gap_blocks.proofs.write_blocks.Statement.{statement}
+use Rattle.gap_blocks.proofs.write_blocks.Tie as tie
 
 abbrev Inv : tie.InvT-loop
 Inv table size n cumulative starts₀ ends₀ count₀ want₀ i₀ starts ends count want i = Put cumulative size n table starts₀ ends₀ starts ends count want i
