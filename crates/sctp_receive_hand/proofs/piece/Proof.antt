@@ -3,8 +3,8 @@
 use borrow.Author.Needs.{needs}
 use native.Mathlib.Omega.{arith}
 use Rattle.sctp_receive_result.proofs.Codes.{back-refuse}
-use Rattle.sctp_receive_fragments.proofs.piece.Statement.{statement}
-use Rattle.sctp_receive_fragments.proofs.piece.Tie as tie
+use Rattle.sctp_receive_hand.proofs.piece.Statement.{statement}
+use Rattle.sctp_receive_hand.proofs.piece.Tie as tie
 
 comes : tie.Need-returns
 comes c = rw (c .before .answer .given .1)
