@@ -65,8 +65,9 @@ function place_of(path,    c, k, parts, i, mods, rest, where) {
     return c "/src/" (mods == "" ? "lib" : mods)
 }
 
-# `use PATH.{a, b as c}`, `use PATH as x`, `use PATH`
-function import(s,    path, list, k, names, i, from, to, w, p) {
+# `use PATH.{a, b as c}`, `use PATH as x`, `use PATH`; `pub use PATH.{a}` hands a on, and in a Lib.antt `pub use PATH` the module
+function import(s,    path, list, k, names, i, from, to, w, p, pub) {
+    pub = s ~ /^(unfoldable )?pub /
     sub(/^(ghost|unfoldable|pub) +/, "", s); sub(/^pub +/, "", s); sub(/^use +/, "", s); sub(/;? *$/, "", s)
     if (s ~ /\.\*$/) fail("use of all names")
     if (s ~ /\.\{/) {
@@ -79,6 +80,7 @@ function import(s,    path, list, k, names, i, from, to, w, p) {
             if (w == 0) continue
             to = w == 3 ? from[3] : from[1]
             brought[place, to] = p == "" ? path "." from[1] : p SUBSEP (declared == "" ? from[1] : declared)
+            if (pub && p != "") handed[place, to] = brought[place, to]
             if (to ~ /^_.*_$/) brought[place, substr(to, 2, length(to) - 2)] = brought[place, to]
         }
         return
@@ -89,6 +91,7 @@ function import(s,    path, list, k, names, i, from, to, w, p) {
     if (w != 3) sub(/^.*\./, "", to)
     p = place_of(path)
     alias[place, to] = p == "" ? path : p SUBSEP declared
+    if (pub && p != "" && place ~ /\/Lib$/) { w = place; sub(/Lib$/, to, w); passed[w] = p }
 }
 
 function antt(line,    s, indent, word) {
@@ -263,8 +266,10 @@ function lost(p, name) { printf "%s: no %s there\n", p, name > "/dev/stderr"; mi
 function target(t,    a, c) {
     if (index(t, SUBSEP) == 0) return t
     split(t, a, SUBSEP)
+    while (a[1] in passed) a[1] = passed[a[1]]
     c = a[1]; sub(/\/.*/, "", c)
     if (!(c in ours) || (a[1] ~ /\/proofs\// && !(a[1] in sources))) return a[1] "." a[2]
+    if ((a[1], a[2]) in handed) return target(handed[a[1], a[2]])
     if (!((a[1], a[2]) in at)) { lost(a[1], a[2]); return "" }
     return Place[at[a[1], a[2]]] "\003" Name[at[a[1], a[2]]]
 }

@@ -1,5 +1,5 @@
-# Holds the names in the documents against the tree, as tools/trace says. Reads, each behind its what=..: items (what tools/items prints), files (a
-# list), groups (program TAB group of checks), numbers (the documents whose paragraphs are numbered), then the documents.
+# Holds the names in the documents against the tree, as tools/trace says. Reads, each behind its what=..: items (what tools/items prints), handed (crate
+# TAB crate TAB name, or file TAB TAB name), files (a list), groups (program TAB group of checks), numbers (the documents whose paragraphs are numbered), then the documents.
 
 # ── what is there ──
 
@@ -32,6 +32,12 @@ what == "items" {
     if ($1 == "call" || $1 == "fn") { function_($2, $3); next }
     known($2, $3, $1)
     if ($1 == "def" || $1 == "type") members($2, $3, $5 " " $6)
+    next
+}
+# a call that a crate hands on goes by that crate too, and a definition by the file that does
+what == "handed" {
+    if ($2 == "") has[$1, $3] = 1
+    else if (($2 "::" $3) in called) called[$1 "::" $3] = 1
     next
 }
 # a file goes by its name without crates/ and its ending; its folders too, and an edit and a file alone

@@ -1,24 +1,21 @@
--- Reading and writing a FORWARD TSN chunk.
+-- Reading and writing a FORWARD TSN chunk: what is not said here is said in the crate that does it, and handed on.
 -- Assumes nothing.
-use Prim.Native.Nat.{ℕ, _-_, _/_, _%_, _<_, _*_, _^_}
-use mathlib.Core.Bool.{not, _||_}
+use Prim.Native.Nat.{ℕ, _-_, _/_, _%_, _<_, _^_}
+use mathlib.Core.Bool.{not}
 use mathlib.Core.List.{List, [], _∷_, _++_}
-use lib.Dec.{ltb, leb, eqb}
-use lib.ListN.{length, drop}
+use lib.Dec.{eqb}
+use lib.ListN.{length}
 use denote.Ref.{RefT}
 use Rattle.wire.specs.BigEndian.{bigEndian}
-use Rattle.wire.specs.Refusal.{none, refuse, Check, when, first, Told, says, answer, Written, write}
+use Rattle.wire.specs.Refusal.{none, refuse, Check, when, first, Told, says, answer}
 use Rattle.wire.specs.Front.{Front}
 use Rattle.chunk.specs.Layout.{Header}
 use Rattle.chunk.specs.Header.{kindChecks, Headed, HeadedFits, headedBytes}
 use Rattle.chunk.specs.Part.{Part, partOf}
-use Rattle.chunk_forward_tsn.specs.Layout.{Pair, pair, pairBytes, forwardTsnChunk}
+pub use Rattle.forward_tsn_entries.specs.Entries.{entryChecks, PairFits, PairFront, pairTold, pairRead}
+unfoldable pub use Rattle.forward_tsn_marshal.specs.Written.{forwardWritten}
 use Rattle.chunk_forward_tsn.specs.declared.Unmarshalled.{Unmarshalled}
 use Rattle.chunk_forward_tsn.specs.declared.Unmarshalled.the-variants as answers
-use Rattle.chunk_forward_tsn.specs.declared.StreamAt.{StreamAt}
-use Rattle.chunk_forward_tsn.specs.declared.StreamAt.the-variants as streams
-
--- ── reading ──
 
 -- what is read: the new cumulative TSN, and how many pairs there are
 pub record Forward : Type 0 where
@@ -54,31 +51,3 @@ forwardRead lent h = answer (forward 0 0) (first (forwardChecks lent (h .header)
 -- the pairs come back as a part of the chunk, from byte 8 up to the length
 unfoldable pub pairsPart : RefT (List ℕ) → Header → Part
 pairsPart raw h = partOf (first (forwardChecks (length (raw .now)) h)) 8 (h .size - 8) raw
-
--- ── a lookup by index over whole 4-byte entries ──
-
--- 11: "list index at or past its count"
-abbrev pub entryChecks : List ℕ → ℕ → List Check
-entryChecks part i = when (leb (length part / 4) i) 11 ∷ []
-
-pub record PairFits (p : Pair) : Type 0 where
-  pub stream : p .stream < 2 ^ 16
-  pub ssn : p .ssn < 2 ^ 16
-
--- the pair that the bytes from entry i on begin with
-abbrev pub PairFront : List ℕ → ℕ → Type 0
-PairFront part i = Front pairBytes PairFits 4 (drop (4 * i) part)
-
-abbrev pub pairTold : StreamAt → Told Pair
-pairTold (streams.Stream s) = says none (pair (s .identifier) (s .sequence))
-pairTold (streams.Refused k) = says (refuse k) (pair 0 0)
-
-abbrev pub pairRead : List ℕ → ℕ → Pair → Told Pair
-pairRead part i p = answer (pair 0 0) (first (entryChecks part i)) p
-
--- ── writing ──
-
--- 9: "Writing more than 16,381 pairs", or lists of unequal length; flags 0 when written
-unfoldable pub forwardWritten : ℕ → List ℕ → List ℕ → List ℕ → Written
-forwardWritten point streams ssns out =
-    write (when (ltb 16381 (length streams) || not (eqb (length streams) (length ssns))) 9 ∷ []) (forwardTsnChunk 0 point streams ssns) out

@@ -1,2 +1,2 @@
-pub mod Layout
+pub use Rattle.forward_tsn_entries.specs.Layout
 pub mod ForwardTsn

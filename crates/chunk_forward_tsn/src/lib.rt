@@ -1,14 +1,15 @@
-// The FORWARD TSN chunk of RFC 3758 section 3.2.
+// The FORWARD TSN chunk of RFC 3758 section 3.2: read here; an entry of its list, and the chunk written, are handed on.
 ghost use mathlib.Core.Path.{_≡_};
 ghost use lib.ListN.{length};
-ghost use Rattle.wire.specs.Refusal.{written};
 ghost use Rattle.chunk.specs.Header.{HeaderFront, headerTold, headerRead, Room};
-ghost use Rattle.chunk.specs.Marshal.{marshalTold};
 ghost use Rattle.chunk.specs.Part.{part};
-ghost use Rattle.chunk_forward_tsn.specs.ForwardTsn.{forwardTold, ForwardFront, forwardChecks, forwardRead, pairsPart, PairFront, pairTold, pairRead, forwardWritten};
+ghost use Rattle.chunk_forward_tsn.specs.ForwardTsn.{forwardTold, ForwardFront, forwardChecks, forwardRead, pairsPart};
 use chunk::ACCEPTED;
-use chunk::Marshalled;
 use chunk::chunk_header;
+pub use forward_tsn_entries::ChunkForwardTsnStream;
+pub use forward_tsn_entries::StreamAt;
+pub use forward_tsn_entries::stream_at;
+pub use forward_tsn_marshal::marshal_to;
 
 // The new cumulative TSN, and how many streams are named behind it.
 pub struct ChunkForwardTsn {
@@ -18,17 +19,6 @@ pub struct ChunkForwardTsn {
 
 pub enum Unmarshalled {
     Fields(ChunkForwardTsn),
-    Refused(u8),
-}
-
-// A stream, and the largest SSN that is skipped in it.
-pub struct ChunkForwardTsnStream {
-    pub identifier: u16,
-    pub sequence: u16,
-}
-
-pub enum StreamAt {
-    Stream(ChunkForwardTsnStream),
     Refused(u8),
 }
 
@@ -85,45 +75,4 @@ pub fn streams<'a>(raw: &'a [u8], refusal: &mut u8) -> &'a [u8]
             &raw[8..end]
         }
     }
-}
-
-// The stream and SSN at an index of such a part.
-pub fn stream_at(part: &[u8], i: usize) -> StreamAt
-    ensures { λ r. ⌜ ((f : PairFront (now (part .entry)) i) → pairTold r ≡ pairRead (now (part .entry)) i (f .fields)) ⌝ }
-{
-    if part.len() / 4 <= i {
-        return StreamAt::Refused(11);
-    }
-    let at = 4 * i;
-    let identifier = wire::get_u16(part, at);
-    let sequence = wire::get_u16(part, at + 2);
-    StreamAt::Stream(ChunkForwardTsnStream {
-        identifier,
-        sequence,
-    })
-}
-
-// The FORWARD TSN chunk of this point and these streams and SSNs, written to the front of the lent buffer.
-pub fn marshal_to(
-    out: &mut [u8],
-    new_cumulative_tsn: u32,
-    identifiers: &[u16],
-    sequences: &[u16],
-) -> Marshalled
-    ensures { λ r. ⌜ written (marshalTold r) (now (out .exit)) ≡ forwardWritten «new_cumulative_tsn» (now (identifiers .entry)) (now (sequences .entry)) (now (out .entry)) ⌝ }
-{
-    let streams = identifiers.len();
-    if 16381 < streams {
-        return Marshalled::Refused(9);
-    }
-    if streams != sequences.len() {
-        return Marshalled::Refused(9);
-    }
-    let size = 8 + 4 * streams;
-    if out.len() < size {
-        return Marshalled::Refused(10);
-    }
-    fields::put_front_4(out, 192, 0, size as u16, new_cumulative_tsn);
-    fields::put_pairs(&mut out[8..], identifiers, sequences);
-    Marshalled::Bytes(size)
 }

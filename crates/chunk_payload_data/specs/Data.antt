@@ -1,37 +1,20 @@
 -- Reading and writing a DATA chunk.
 -- Assumes nothing.
-use Prim.Native.Nat.{ℕ, _+_, _-_, _/_, _%_}
+use Prim.Native.Nat.{ℕ, _+_, _/_, _%_}
 use mathlib.Core.Bool.{Bool, false, cond}
-use mathlib.Core.List.{List, [], _∷_, _++_}
+use mathlib.Core.List.{List, [], _∷_}
 use lib.Dec.{ltb, eqb}
 use lib.ListN.{length}
-use denote.Ref.{RefT}
 use Rattle.wire.specs.Refusal.{none, refuse, Check, when, first, Told, says, answer, Written, write}
-use Rattle.chunk.specs.Layout.{Header}
 use Rattle.chunk_payload_data.specs.Layout.{Data, DataFits, dataValue, dataChunk}
-use Rattle.chunk.specs.Header.{kindChecks, Headed, HeadedFront}
-use Rattle.chunk.specs.Part.{Part, partOf}
+use Rattle.chunk.specs.Header.{Headed, HeadedFront}
+pub use Rattle.payload_identifier.specs.Identifier.{identifierNumber}
+unfoldable pub use Rattle.payload_identifier.specs.Identifier.{identifierName}
+pub use Rattle.data_header.specs.Checks.{dataOnly, dataChecks}
+unfoldable pub use Rattle.data_header.specs.Checks.{userData}
 use Rattle.chunk_payload_data.specs.declared.ChunkPayloadData.{ChunkPayloadData}
-use Rattle.chunk_payload_data.specs.declared.PayloadProtocolIdentifier.{PayloadProtocolIdentifier}
-use Rattle.chunk_payload_data.specs.declared.PayloadProtocolIdentifier.the-variants.{Dcep, String, Binary, StringEmpty, BinaryEmpty, Unknown}
 use Rattle.chunk_payload_data.specs.declared.Unmarshalled.{Unmarshalled}
 use Rattle.chunk_payload_data.specs.declared.Unmarshalled.the-variants as answers
-
--- ── the names of payload identifiers: "the 32-bit number, with the five names as a reading of it" ──
-
--- "Identifiers 50, 51, 53, 56 and 57 have names"; Unknown stands for 58
-abbrev pub identifierNumber : PayloadProtocolIdentifier → ℕ
-identifierNumber Dcep = 50
-identifierNumber String = 51
-identifierNumber Binary = 53
-identifierNumber StringEmpty = 56
-identifierNumber BinaryEmpty = 57
-identifierNumber Unknown = 58
-
--- "every other number reads as Unknown"
-unfoldable pub identifierName : ℕ → PayloadProtocolIdentifier
-identifierName n =
-    cond (eqb n 50) Dcep (cond (eqb n 51) String (cond (eqb n 53) Binary (cond (eqb n 56) StringEmpty (cond (eqb n 57) BinaryEmpty Unknown))))
 
 -- ── the flags ──
 
@@ -95,20 +78,8 @@ dataTold (answers.Refused k) = says (refuse k) noData
 abbrev pub DataFront : List ℕ → Type 0
 DataFront raw = HeadedFront dataValue DataFits raw
 
--- 15: "Reading length 16", which leaves no byte of data
-abbrev pub dataOnly : Header → List Check
-dataOnly h = when (eqb (h .size) 16) 15 ∷ []
-
--- 3: the type is not 0; 4: "DATA length below 16"; then 15
-abbrev pub dataChecks : ℕ → Header → List Check
-dataChecks lent h = kindChecks 0 16 4 lent h ++ dataOnly h
-
 unfoldable pub dataRead : ℕ → Headed Data → Told DataValues
 dataRead lent h = answer noData (first (dataChecks lent (h .header))) (dataShown (h .header .flags) (h .fields))
-
--- "from byte 16 up to the length"
-unfoldable pub userData : RefT (List ℕ) → Header → Part
-userData raw h = partOf (first (dataChecks (length (raw .now)) h)) 16 (h .size - 16) raw
 
 -- ── writing ──
 

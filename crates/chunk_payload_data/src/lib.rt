@@ -1,25 +1,15 @@
-// The DATA chunk of RFC 4960 section 3.3.1.
+// The DATA chunk of RFC 4960 section 3.3.1: its fields read, and the chunk written. Its header and its user data, and the names of identifiers, are handed on.
 ghost use mathlib.Core.Path.{_≡_};
 ghost use Prim.Native.Nat.{_≤_};
 ghost use lib.ListN.{length};
 ghost use Rattle.wire.specs.Refusal.{written};
-ghost use Rattle.chunk.specs.Header.{HeaderFront, headerTold, headerRead, Room};
 ghost use Rattle.chunk.specs.Marshal.{marshalTold};
-ghost use Rattle.chunk.specs.Part.{part};
-ghost use Rattle.chunk_payload_data.specs.Data.{identifierNumber, identifierName, DataFront, dataTold, dataChecks, dataRead, dataHeld, dataShown, userData, dataFlags, weighed, dataWritten};
-use chunk::ACCEPTED;
+ghost use Rattle.chunk_payload_data.specs.Data.{DataFront, dataTold, dataRead, dataHeld, dataShown, dataFlags, weighed, dataWritten};
 use chunk::Marshalled;
 use chunk::chunk_header;
-
-// What a payload identifier says of the user data: five have names. It is a reading of the number alone; what is kept and sent is the number.
-pub enum PayloadProtocolIdentifier {
-    Dcep,
-    String,
-    Binary,
-    StringEmpty,
-    BinaryEmpty,
-    Unknown,
-}
+pub use data_header::header;
+pub use data_header::user_data;
+pub use payload_identifier::PayloadProtocolIdentifier;
 
 // The fields of a DATA chunk before its user data; the payload identifier is the number as it was sent.
 pub struct ChunkPayloadData {
@@ -36,54 +26,6 @@ pub struct ChunkPayloadData {
 pub enum Unmarshalled {
     Fields(ChunkPayloadData),
     Refused(u8),
-}
-
-impl PayloadProtocolIdentifier {
-    // The name of a number; Unknown where it has none.
-    pub fn from_u32(v: u32) -> Self
-        ensures { λ r. ⌜ r ≡ identifierName v ⌝ }
-    {
-        match v {
-            50 => Self::Dcep,
-            51 => Self::String,
-            53 => Self::Binary,
-            56 => Self::StringEmpty,
-            57 => Self::BinaryEmpty,
-            _ => Self::Unknown,
-        }
-    }
-
-    // The number of a name; 58 for Unknown.
-    pub fn to_u32(self) -> u32
-        ensures { λ r. ⌜ r ≡ identifierNumber self ⌝ }
-    {
-        match self {
-            Self::Dcep => 50,
-            Self::String => 51,
-            Self::Binary => 53,
-            Self::StringEmpty => 56,
-            Self::BinaryEmpty => 57,
-            Self::Unknown => 58,
-        }
-    }
-}
-
-// The header of the DATA chunk that the lent bytes begin with, if that is one whole chunk with data.
-pub fn header(raw: &[u8]) -> chunk_header::Unmarshalled
-    ensures { λ r. ⌜ ((f : HeaderFront (now (raw .entry))) → headerTold r ≡ headerRead (dataChecks (length (now (raw .entry))) (f .fields)) (f .fields)) ⌝ }
-    ensures { λ r. ⌜ Room 16 (length (now (raw .entry))) r ⌝ }
-{
-    let any = chunk_header::unmarshal_as(raw, 0, 16, 4);
-    match any {
-        chunk_header::Unmarshalled::Refused(k) => chunk_header::Unmarshalled::Refused(k),
-        chunk_header::Unmarshalled::Header(h) => {
-            let length = h.length;
-            if length == 16 {
-                return chunk_header::Unmarshalled::Refused(15);
-            }
-            chunk_header::Unmarshalled::Header(h)
-        }
-    }
 }
 
 // The fields of the DATA chunk that the lent bytes begin with.
@@ -118,24 +60,6 @@ fn fields(raw: &[u8], flags: u8) -> ChunkPayloadData
         stream_identifier,
         stream_sequence_number,
         payload_type,
-    }
-}
-
-// The user data of the chunk that the lent bytes begin with, as a part of them; empty beside a refusal.
-pub fn user_data<'a>(raw: &'a [u8], refusal: &mut u8) -> &'a [u8]
-    ensures { λ r. ⌜ ((f : HeaderFront (now (raw .entry))) → part (now (refusal .exit)) r ≡ userData (raw .entry) (f .fields)) ⌝ }
-{
-    let any = header(raw);
-    match any {
-        chunk_header::Unmarshalled::Refused(k) => {
-            *refusal = k;
-            &raw[..0]
-        }
-        chunk_header::Unmarshalled::Header(h) => {
-            let end = h.length as usize;
-            *refusal = ACCEPTED;
-            &raw[16..end]
-        }
     }
 }
 

@@ -1,2 +1,2 @@
-pub mod Layout
+pub use Rattle.sack_entries.specs.Layout
 pub mod Sack

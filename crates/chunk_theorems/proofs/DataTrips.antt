@@ -20,8 +20,8 @@ use Rattle.chunk.specs.Header.{HeaderFront, kindChecks, Headed, HeadedFits}
 use Rattle.chunk.specs.Part.{Part}
 use Rattle.chunk_payload_data.specs.Data.{identifierNumber, identifierName, flagSet, weighed, DataValues, noData, dataShown, dataHeld, dataTold, DataFront, dataOnly, dataChecks, dataRead, userData, dataFlags, dataSent, sizeChecks, dataWritten}
 use Rattle.chunk_payload_data.specs.declared.ChunkPayloadData.{ChunkPayloadData}
-use Rattle.chunk_payload_data.specs.declared.PayloadProtocolIdentifier.{PayloadProtocolIdentifier}
-use Rattle.chunk_payload_data.specs.declared.PayloadProtocolIdentifier.the-variants.{Dcep, String, Binary, StringEmpty, BinaryEmpty, Unknown}
+use Rattle.payload_identifier.specs.declared.PayloadProtocolIdentifier.{PayloadProtocolIdentifier}
+use Rattle.payload_identifier.specs.declared.PayloadProtocolIdentifier.the-variants.{Dcep, String, Binary, StringEmpty, BinaryEmpty, Unknown}
 use Rattle.chunk_payload_data.specs.declared.Unmarshalled as «data»
 use Rattle.chunk_payload_data.specs.declared.Unmarshalled.the-variants as data-is
 use Rattle.chunk.proofs.Headers.{header-front, passes, headed-accepted, chunk-front, chunk-behind, chunk-passes, part-back}

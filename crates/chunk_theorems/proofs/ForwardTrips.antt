@@ -22,8 +22,8 @@ use Rattle.chunk_forward_tsn.specs.Layout.{pair, pairsBytes, forwardTsnChunk}
 use Rattle.chunk_forward_tsn.specs.ForwardTsn.{forward, forwardTold, Word, ForwardFront, pairsOnly, forwardChecks, forwardRead, pairsPart, PairFront, pairTold, pairRead}
 use Rattle.chunk_forward_tsn.specs.declared.Unmarshalled.{Unmarshalled}
 use Rattle.chunk_forward_tsn.specs.declared.Unmarshalled.the-variants.{Fields}
-use Rattle.chunk_forward_tsn.specs.declared.StreamAt.{StreamAt}
-use Rattle.chunk_forward_tsn.proofs.ForwardBytes.{pair-entries, bytes-pairs}
+use Rattle.forward_tsn_entries.specs.declared.StreamAt.{StreamAt}
+use Rattle.forward_tsn_marshal.proofs.ForwardBytes.{pair-entries, bytes-pairs}
 use Rattle.chunk_theorems.proofs.OneAnswer.{forward-told-one}
 
 -- how many pairs a length says

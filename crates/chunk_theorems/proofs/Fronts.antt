@@ -21,8 +21,8 @@ use Rattle.chunk_forward_tsn.specs.ForwardTsn.{Word, ForwardFront, PairFits, Pa
 use Rattle.chunk.proofs.Headers.{header-length, FieldsFront}
 use Rattle.fields.proofs.Entries.{two-fit}
 use Rattle.chunk_payload_data.proofs.DataBytes.{data-value-length}
-use Rattle.chunk_selective_ack.proofs.SackBytes.{block-length, sack-value-length}
-use Rattle.chunk_forward_tsn.proofs.ForwardBytes.{pair-length}
+use Rattle.sack_marshal.proofs.SackBytes.{block-length, sack-value-length}
+use Rattle.forward_tsn_marshal.proofs.ForwardBytes.{pair-length}
 
 -- fields whose layout is the first n bytes
 record Laid {A : Type 0} (layout : A → List ℕ) (Fits : A → Type 0) (n : ℕ) (raw : List ℕ) : Type 0 where

@@ -21,16 +21,16 @@ use Rattle.chunk.specs.declared.chunk_header.Unmarshalled.the-variants as head-
 use Rattle.chunk_payload_data.specs.declared.ChunkPayloadData.{ChunkPayloadData}
 use Rattle.chunk_payload_data.specs.declared.Unmarshalled as «data»
 use Rattle.chunk_payload_data.specs.declared.Unmarshalled.the-variants as data-is
-use Rattle.chunk_selective_ack.specs.declared.Unmarshalled as sack
-use Rattle.chunk_selective_ack.specs.declared.Unmarshalled.the-variants as sack-is
-use Rattle.chunk_selective_ack.specs.declared.GapAckBlockAt as block
-use Rattle.chunk_selective_ack.specs.declared.GapAckBlockAt.the-variants as block-is
-use Rattle.chunk_selective_ack.specs.declared.DuplicateTsnAt as tsn
-use Rattle.chunk_selective_ack.specs.declared.DuplicateTsnAt.the-variants as tsn-is
+use Rattle.sack_fields.specs.declared.Unmarshalled as sack
+use Rattle.sack_fields.specs.declared.Unmarshalled.the-variants as sack-is
+use Rattle.sack_entries.specs.declared.GapAckBlockAt as block
+use Rattle.sack_entries.specs.declared.GapAckBlockAt.the-variants as block-is
+use Rattle.sack_entries.specs.declared.DuplicateTsnAt as tsn
+use Rattle.sack_entries.specs.declared.DuplicateTsnAt.the-variants as tsn-is
 use Rattle.chunk_forward_tsn.specs.declared.Unmarshalled as forward
 use Rattle.chunk_forward_tsn.specs.declared.Unmarshalled.the-variants as forward-is
-use Rattle.chunk_forward_tsn.specs.declared.StreamAt as stream
-use Rattle.chunk_forward_tsn.specs.declared.StreamAt.the-variants as stream-is
+use Rattle.forward_tsn_entries.specs.declared.StreamAt as stream
+use Rattle.forward_tsn_entries.specs.declared.StreamAt.the-variants as stream-is
 use Rattle.chunk.specs.declared.Marshalled.{Marshalled}
 use Rattle.chunk.specs.declared.Marshalled.the-variants as bytes-is
 use Rattle.chunk_theorems.proofs.Fronts.{header-some, data-some, sack-some, block-some, tsn-some, forward-some, pair-some}

@@ -16,13 +16,13 @@ use Rattle.chunk_selective_ack.specs.Layout.{Sack, sack, SackFits, sackValue, b
 use Rattle.chunk.specs.Header.{kindChecks, Headed, HeadedFits}
 use Rattle.chunk.specs.Part.{Part}
 use Rattle.chunk_selective_ack.specs.Sack.{sackHeld, sackTold, SackFront, listsOnly, sackChecks, sackRead, blocksPart, duplicatesPart, entryChecks, BlockFront, blockTold, blockRead, TsnFront, tsnTold, tsnRead}
-use Rattle.chunk_selective_ack.specs.declared.Unmarshalled.{Unmarshalled}
-use Rattle.chunk_selective_ack.specs.declared.Unmarshalled.the-variants.{Fields}
-use Rattle.chunk_selective_ack.specs.declared.GapAckBlockAt.{GapAckBlockAt}
-use Rattle.chunk_selective_ack.specs.declared.DuplicateTsnAt.{DuplicateTsnAt}
+use Rattle.sack_fields.specs.declared.Unmarshalled.{Unmarshalled}
+use Rattle.sack_fields.specs.declared.Unmarshalled.the-variants.{Fields}
+use Rattle.sack_entries.specs.declared.GapAckBlockAt.{GapAckBlockAt}
+use Rattle.sack_entries.specs.declared.DuplicateTsnAt.{DuplicateTsnAt}
 use Rattle.chunk.proofs.Headers.{passes, headed-accepted, chunk-front, chunk-behind, chunk-passes, part-back}
 use Rattle.fields.proofs.Entries.{entries-length, entry-begins, any-pairs, any-words, entry-bytes}
-use Rattle.chunk_selective_ack.proofs.SackBytes.{block-entries, tsn-entries, blocks-pairs, tsns-words, sack-value-length, lists-length}
+use Rattle.sack_marshal.proofs.SackBytes.{block-entries, tsn-entries, blocks-pairs, tsns-words, sack-value-length, lists-length}
 use Rattle.chunk_theorems.proofs.OneAnswer.{sack-told-one}
 
 -- ── what is accepted is a SACK chunk of the fields in front and of what lies behind them ──

@@ -1,9 +1,6 @@
 // CRC32c of lent bytes (RFC 4960, Appendix B), by a table of 256 words.
 ghost use mathlib.Core.Path.{_≡_};
-ghost use Rattle.crc32c.specs.Crc.{through, crc32c};
-
-mod byte_table;
-mod lanes;
+ghost use Rattle.crc32c_table.specs.Crc.{through, crc32c};
 
 // The register before the first byte; the sum is what a register lacks to it.
 pub const ALL_ONES: u32 = 0xffff_ffff;
@@ -12,18 +9,18 @@ pub const ALL_ONES: u32 = 0xffff_ffff;
 pub fn update(register: u32, bytes: &[u8]) -> u32
     ensures { λ r. ⌜ r ≡ through register (now (bytes .entry)) ⌝ }
 {
-    let words = byte_table::entries();
+    let words = crc32c_table::entries();
     if bytes.len() < 64 {
-        return lanes::one(&words, register, bytes);
+        return crc32c_lanes::one(&words, register, bytes);
     }
     let part = bytes.len() / 4;
-    let ends = lanes::four(&words, register, bytes, part);
+    let ends = crc32c_lanes::four(&words, register, bytes, part);
     let far = ends.far;
-    let r = lanes::after_zeros(ends.first, far) ^ ends.second;
-    let r = lanes::after_zeros(r, far) ^ ends.third;
-    let r = lanes::after_zeros(r, far) ^ ends.fourth;
+    let r = crc32c_lanes::after_zeros(ends.first, far) ^ ends.second;
+    let r = crc32c_lanes::after_zeros(r, far) ^ ends.third;
+    let r = crc32c_lanes::after_zeros(r, far) ^ ends.fourth;
     let done = 4 * part;
-    lanes::one(&words, r, &bytes[done..])
+    crc32c_lanes::one(&words, r, &bytes[done..])
 }
 
 // The sum of all bytes.

@@ -9,7 +9,7 @@ use lib.Seq.{take-all}
 use Rattle.wire.proofs.Exists.{Bytes}
 use Rattle.fields.proofs.Entries.{entries-length, any-pairs, entry-bytes}
 use Rattle.chunk_forward_tsn.specs.Layout.{pairsBytes}
-use Rattle.chunk_forward_tsn.proofs.ForwardBytes.{pair-entries, bytes-pairs}
+use Rattle.forward_tsn_marshal.proofs.ForwardBytes.{pair-entries, bytes-pairs}
 use Rattle.forward_tsn.specs.Applied.{Pairs}
 
 -- whatever its bytes are, a part is some pairs

@@ -19,7 +19,7 @@ pub fn sent_of(row: Row, message: u64) -> Sent
     ensures { λ r. ⌜ sentGiven r ≡ sentOf row message ⌝ }
 {
     let head = row.head;
-    let queued = payload_parts::record::chunk_of(row);
+    let queued = payload_record::chunk_of(row);
     Sent {
         queued,
         acked: head / 65536 % 2 == 1,

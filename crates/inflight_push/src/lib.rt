@@ -28,7 +28,7 @@ pub fn push_no_check(
         };
     }
     let count = counts.count;
-    let row = payload_parts::record::row_of(chunk, size);
+    let row = payload_record::row_of(chunk, size);
     let tsn = row.tsn;
     if table_search::has_tsn(table, TSNS, 0, count, tsn) {
         return Changed {

@@ -9,7 +9,7 @@ use lib.IntN.{ℤ}
 use lib.ListN.{length}
 use denote.Ref.{RefT}
 use Rattle.serial.specs.Serial.{next, ahead, distance, compared, before, after, atOrBefore, atOrAfter}
-use Rattle.serial.specs.declared.Order.{Order}
+use Rattle.serial_model.specs.declared.Order.{Order}
 use Rattle.wire.specs.Refusal.{Written, written}
 use Rattle.wire.proofs.Exists.{Bytes}
 use Rattle.chunk.specs.Header.{HeaderFront, headerChecks, kindChecks, headerTold, headerRead}
@@ -19,15 +19,15 @@ use Rattle.chunk.specs.declared.chunk_header.Unmarshalled as head
 use Rattle.chunk.specs.declared.Marshalled.{Marshalled}
 use Rattle.chunk_payload_data.specs.Data.{identifierNumber, identifierName, dataFlags, dataTold, DataFront, dataChecks, dataRead, userData, dataWritten}
 use Rattle.chunk_payload_data.specs.declared.ChunkPayloadData.{ChunkPayloadData}
-use Rattle.chunk_payload_data.specs.declared.PayloadProtocolIdentifier.{PayloadProtocolIdentifier}
+use Rattle.payload_identifier.specs.declared.PayloadProtocolIdentifier.{PayloadProtocolIdentifier}
 use Rattle.chunk_payload_data.specs.declared.Unmarshalled as «data»
 use Rattle.chunk_selective_ack.specs.Sack.{sackTold, SackFront, sackRead, blocksPart, duplicatesPart, BlockFront, blockTold, blockRead, TsnFront, tsnTold, tsnRead, sackWritten}
-use Rattle.chunk_selective_ack.specs.declared.Unmarshalled as sack
-use Rattle.chunk_selective_ack.specs.declared.GapAckBlockAt.{GapAckBlockAt}
-use Rattle.chunk_selective_ack.specs.declared.DuplicateTsnAt.{DuplicateTsnAt}
+use Rattle.sack_fields.specs.declared.Unmarshalled as sack
+use Rattle.sack_entries.specs.declared.GapAckBlockAt.{GapAckBlockAt}
+use Rattle.sack_entries.specs.declared.DuplicateTsnAt.{DuplicateTsnAt}
 use Rattle.chunk_forward_tsn.specs.ForwardTsn.{forwardTold, ForwardFront, forwardRead, pairsPart, PairFront, pairTold, pairRead, forwardWritten}
 use Rattle.chunk_forward_tsn.specs.declared.Unmarshalled as forward
-use Rattle.chunk_forward_tsn.specs.declared.StreamAt.{StreamAt}
+use Rattle.forward_tsn_entries.specs.declared.StreamAt.{StreamAt}
 use Rattle.chunk_theorems.proofs.OneAnswer.{header-one, header-as-one, data-head-one, data-one, user-data-one, sack-one, blocks-part-one, duplicates-part-one, block-one, tsn-one, forward-one, pairs-part-one, pair-one, written-one}
 use Rattle.one_answer.proofs.Only.{Only, named-one, both}
 

@@ -23,7 +23,7 @@ pub fn get(counts: Counts, table: &[u32; WORDS], tsn: u32) -> Taken
     if count <= at {
         return Taken::Nothing;
     }
-    Taken::Chunk(payload_parts::record::chunk_of(table::row_at(table, TSNS, at)))
+    Taken::Chunk(payload_record::chunk_of(table::row_at(table, TSNS, at)))
 }
 
 // The gap report: starts and ends of its blocks go to the front of the lent lists, and their count is the answer; 10 where a list is too short.

@@ -8,8 +8,8 @@ use lib.Dec.{ltb}
 use borrow.Author.Tests.{ltb-true}
 use Rattle.wire.specs.Refusal.{none, refuse, says}
 use Rattle.serial.specs.Serial.{atOrBefore, compared, isOpposite, opposite}
-use Rattle.serial.specs.declared.Order.{Order}
-use Rattle.serial.specs.declared.Order.the-variants.{Earlier, Same, Later, Opposite}
+use Rattle.serial_model.specs.declared.Order.{Order}
+use Rattle.serial_model.specs.declared.Order.the-variants.{Earlier, Same, Later, Opposite}
 use Rattle.serial.specs.Facts.{both}
 use Rattle.serial.specs.Compared.{isAtOrBefore, at-or-before-told}
 use Rattle.table.specs.Rows.{some, kept, hasTsn}

@@ -23,13 +23,13 @@ use Rattle.payload_model.specs.Queue.{Queue, held, unsound, After, Found
 use Rattle.gap_report.specs.Gap.{block, extend, walk, startsOf, endsOf, blocks, reported, written}
 use Rattle.gap_report.specs.Report.{InArc, Ordered}
 use Rattle.payload_model.specs.GapCall.{lists, reportTold, gapReport}
-use Rattle.gap_report.specs.declared.Reported.{Reported}
-use Rattle.gap_report.specs.declared.Reported.the-variants.{Count, Short}
+use Rattle.gap_model.specs.declared.Reported.{Reported}
+use Rattle.gap_model.specs.declared.Reported.the-variants.{Count, Short}
 use Rattle.payload_model.specs.Run.{Call, push, pop, popUpTo, popDuplicates, step, starts, ran, tsnsHeld, OnArc, OnArcs, Distinct, Sane, AllSane, OnlyReport}
 use Rattle.payload_model.proofs.Laws.{Sound, sound, either, kept-within, front-back}
-use Rattle.gap_report.proofs.Walk.{walk-more}
+use Rattle.gap_model.proofs.Walk.{walk-more}
 use Rattle.payload_model.proofs.Held.{Less, More, kept-less, tail-less, distinct-more, Rising, rising-more, rising-ordered}
-use Rattle.gap_report.proofs.Unique.{report-covers, report-unique, same-report, arc-more}
+use Rattle.gap_model.proofs.Unique.{report-covers, report-unique, same-report, arc-more}
 
 -- ── one call, as a change of the held records ──
 

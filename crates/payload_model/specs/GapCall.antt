@@ -6,8 +6,8 @@ use mathlib.Core.List.{List}
 use Rattle.wire.specs.Refusal.{none, refuse, Told, says}
 use Rattle.payload_model.specs.Queue.{Queue, held, unsound}
 use Rattle.gap_report.specs.Gap.{Report, reported}
-use Rattle.gap_report.specs.declared.Reported.{Reported}
-use Rattle.gap_report.specs.declared.Reported.the-variants.{Count, Short}
+use Rattle.gap_model.specs.declared.Reported.{Reported}
+use Rattle.gap_model.specs.declared.Reported.the-variants.{Count, Short}
 
 -- the answer, and what the two lent lists hold in the end
 pub record Lists : Type 0 where

@@ -1,4 +1,4 @@
-// What the calls of the TSN queue are made of: records, and the log.
+// What the calls of the TSN queue are made of: the records that stay, and the log.
 ghost use mathlib.Core.Path.{_≡_};
 ghost use mathlib.Core.List.{List};
 ghost use Prim.Native.Nat.{ℕ, _*_, _≤_};
@@ -7,9 +7,6 @@ ghost use Rattle.wire.specs.BigEndian.{over};
 ghost use Rattle.table.specs.Rows.{rowsOf, kept};
 ghost use Rattle.payload_model.specs.Limits.{tsnsMost, logMost};
 ghost use Rattle.payload_model.specs.Queue.{queueOf, logged, staysAfter, zeros};
-
-pub mod record;
-
 use payload_model::Counts;
 use payload_model::LOG;
 use payload_model::TSNS;

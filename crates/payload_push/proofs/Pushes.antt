@@ -6,7 +6,7 @@ use Prim.Native.Nat.{ℕ, _^_, _<_, _≤_}
 use borrow.Author.Tests.{le-leb, lt-leb}
 use Rattle.wire.specs.Refusal.{none, refuse, says}
 use Rattle.serial.specs.Serial.{atOrBefore, compared}
-use Rattle.serial.specs.declared.Order.the-variants.{Earlier, Same, Later, Opposite}
+use Rattle.serial_model.specs.declared.Order.the-variants.{Earlier, Same, Later, Opposite}
 use Rattle.serial.specs.Compared.{isAtOrBefore, at-or-before-told}
 use Rattle.table.specs.Rows.{some, hasTsn}
 use Rattle.table.specs.declared.Row.{Row}

@@ -1,32 +1,19 @@
-// A TSN that comes: whether it can be pushed, and pushing it.
+// A TSN that comes: pushing it; whether it can be pushed is handed on.
 ghost use mathlib.Core.Path.{_≡_};
 ghost use mathlib.Core.Bool.{false};
 ghost use mathlib.Core.List.{List};
 ghost use Prim.Native.Nat.{ℕ};
 ghost use Rattle.wire.specs.Refusal.{none, refuse, says};
-ghost use Rattle.payload_model.specs.Queue.{queueOf, after, rowOf, logged, pushed, canPush};
+ghost use Rattle.payload_model.specs.Queue.{queueOf, after, rowOf, logged, pushed};
 ghost use Rattle.payload_model.specs.Answers.{flagTold};
 use chunk_payload_data::ChunkPayloadData;
+pub use payload_can_push::can_push;
 use payload_model::Counts;
 use payload_model::Flag;
 use payload_model::Pushed;
 use payload_model::TSNS;
 use payload_model::WORDS;
 use serial::Order;
-
-// Whether the TSN is neither held nor at or before the cumulative one.
-pub fn can_push(counts: Counts, table: &[u32; WORDS], tsn: u32, cumulative: u32) -> Flag
-    ensures { λ r. ⌜ flagTold r ≡ canPush (queueOf counts (now (table .entry))) tsn cumulative ⌝ }
-{
-    if payload_counts::unsound(counts, table) {
-        return Flag::Refused(0);
-    }
-    let count = counts.count;
-    if table_search::has_tsn(table, TSNS, 0, count, tsn) {
-        return Flag::Is(false);
-    }
-    Flag::Is(!serial::sna32lte(tsn, cumulative))
-}
 
 // A refusal, and the queue as it was.
 fn refused(counts: Counts, number: u8) -> Pushed
@@ -62,7 +49,7 @@ pub fn push(
     if payload_counts::unsound(counts, table) {
         return refused(counts, 0);
     }
-    let row = payload_parts::record::row_of(chunk, size);
+    let row = payload_record::row_of(chunk, size);
     let tsn = row.tsn;
     match serial::tsn_compare(tsn, cumulative) {
         Order::Opposite => return refused(counts, 17),

@@ -42,7 +42,7 @@ pub fn pop(counts: Counts, table: &mut [u32; WORDS], tsn: u32) -> Popped
     queue.count = count - 1;
     queue.n_bytes = queue.n_bytes - (row.head % 65536) as usize;
     Popped {
-        answer: Taken::Chunk(payload_parts::record::chunk_of(row)),
+        answer: Taken::Chunk(payload_record::chunk_of(row)),
         queue,
     }
 }

@@ -5,8 +5,8 @@ use mathlib.Core.Bool.{Bool, true, false, true≢false}
 use mathlib.Core.List.{List, _∷_}
 use Prim.Native.Nat.{ℕ}
 use Rattle.serial.specs.Serial.{before, compared, isOpposite, opposite}
-use Rattle.serial.specs.declared.Order.{Order}
-use Rattle.serial.specs.declared.Order.the-variants.{Earlier, Same, Later, Opposite}
+use Rattle.serial_model.specs.declared.Order.{Order}
+use Rattle.serial_model.specs.declared.Order.the-variants.{Earlier, Same, Later, Opposite}
 use Rattle.serial.specs.Compared.{isBefore, before-told}
 use Rattle.fragments.specs.Frag.{Frag}
 use Rattle.fragments.specs.Words.{past}

@@ -1,2 +1,2 @@
-pub mod Lines
-pub mod Behind
+pub use Rattle.replay_words.specs.Lines
+pub use Rattle.replay_words.specs.Behind

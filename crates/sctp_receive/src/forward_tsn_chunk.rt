@@ -16,7 +16,7 @@ pub extern "C" fn sctp_receive_forward_tsn_unmarshal(
 ) -> i32
     ensures { λ r. ⌜ ((f : ForwardFront (now (raw .entry))) → told r (forward (now («new_cumulative_tsn» .exit)) (now (streams .exit))) ≡ forwardRead (length (now (raw .entry))) (f .fields)) ⌝ }
 {
-    sctp_receive_codecs::forward_tsn::unmarshal(raw, new_cumulative_tsn, streams)
+    sctp_receive_forward_chunk::unmarshal(raw, new_cumulative_tsn, streams)
 }
 
 // Where the streams and SSNs of the chunk that the lent bytes begin with stand in them: from byte 8 up to the length; 1 2 3 12.
@@ -28,7 +28,7 @@ pub extern "C" fn sctp_receive_forward_tsn_streams(
 ) -> i32
     ensures { λ r. ⌜ ((f : ForwardFront (now (raw .entry))) → told r (span (now (start .exit)) (now (size .exit))) ≡ pairsSpan (length (now (raw .entry))) (f .fields .header)) ⌝ }
 {
-    sctp_receive_codecs::forward_tsn::streams(raw, start, size)
+    sctp_receive_forward_chunk::streams(raw, start, size)
 }
 
 // The stream and SSN at an index of such a part; 11.
@@ -41,7 +41,7 @@ pub extern "C" fn sctp_receive_forward_tsn_stream_at(
 ) -> i32
     ensures { λ r. ⌜ ((f : PairFront (now (part .entry)) i) → told r (pair (now (identifier .exit)) (now (sequence .exit))) ≡ pairRead (now (part .entry)) i (f .fields)) ⌝ }
 {
-    sctp_receive_codecs::forward_tsn::stream_at(part, i, identifier, sequence)
+    sctp_receive_forward_chunk::stream_at(part, i, identifier, sequence)
 }
 
 // The FORWARD TSN chunk of this point and these streams and SSNs, written to the front of the lent buffer; n is its byte count; 9 and 10.
@@ -55,5 +55,5 @@ pub extern "C" fn sctp_receive_forward_tsn_marshal_to(
 ) -> i32
     ensures { λ r. ⌜ written (told r (now (n .exit))) (now (out .exit)) ≡ forwardWritten «new_cumulative_tsn» (now (identifiers .entry)) (now (sequences .entry)) (now (out .entry)) ⌝ }
 {
-    sctp_receive_codecs::forward_tsn::marshal_to(out, new_cumulative_tsn, identifiers, sequences, n)
+    sctp_receive_forward_chunk::marshal_to(out, new_cumulative_tsn, identifiers, sequences, n)
 }

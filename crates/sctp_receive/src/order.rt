@@ -2,7 +2,7 @@
 ghost use mathlib.Core.Path.{_≡_};
 ghost use lib.Dec.{eqb};
 ghost use Rattle.serial.specs.Serial.{before, atOrBefore, after, atOrAfter, compared, orderNumber};
-use sctp_receive_codecs::order::number;
+use sctp_receive_order::number;
 
 // Is the TSN i1 before i2?
 #[no_mangle]

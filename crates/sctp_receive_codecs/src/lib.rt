@@ -1,4 +1,4 @@
-// What the codecs' C calls are made of: a writer's answer taken apart, where the user data stands, a comparison's answer as a number. The values go through references, 0 beside a refusal,
+// What the codecs' C calls are made of: a writer's answer taken apart, and where the user data stands. The values go through references, 0 beside a refusal,
 // and the result is -1 or the refusal's number.
 ghost use mathlib.Core.Path.{_≡_};
 ghost use lib.ListN.{length};
@@ -8,9 +8,6 @@ ghost use Rattle.sctp_receive_result.specs.Result.{told, back};
 ghost use Rattle.sctp_receive_result.specs.Places.{span, userSpan};
 use chunk::Marshalled;
 use chunk::chunk_header;
-
-pub mod forward_tsn;
-pub mod order;
 
 // A chunk's byte count.
 pub fn marshalled(answer: Marshalled, n: &mut usize) -> i32

@@ -1,19 +1,19 @@
-// What the C calls of reassembly and of the message in hand are made of: the fields that C keeps, put together and put back, and the answers, taken apart:
-// the values go through references, 0 and false beside a refusal, and the result is -1 or the refusal's number.
+// What the C calls of reassembly are made of: the fields that C keeps, put back, and the answers, taken apart: the values go through references, 0 and false
+// beside a refusal, and the result is -1 or the refusal's number. What the message in hand has of this is handed on.
 ghost use mathlib.Core.Path.{_≡_};
-ghost use Rattle.chunks.specs.Message.{flagTold, numberTold, pieceTold};
 ghost use Rattle.reassembly_state.specs.Answers.{tookTold, doneTold};
 ghost use Rattle.reassembly_applicable.specs.Answers.{applicableTold};
 ghost use Rattle.sctp_receive_result.specs.Result.{told, back, done};
-ghost use Rattle.sctp_receive_model.specs.States.{fragmentCounts, messageFrom, foundFrom, handFrom, pieceFrom};
-use chunks::Chunks;
-use chunks::Flag;
-use chunks::Number;
-use chunks::Piece;
+ghost use Rattle.sctp_receive_model.specs.States.{fragmentCounts, messageFrom, foundFrom};
 use reassembly_queue::Applicable;
 use reassembly_queue::Done;
 use reassembly_queue::ReassemblyQueue;
 use reassembly_queue::Took;
+pub use sctp_receive_hand::flag;
+pub use sctp_receive_hand::hand;
+pub use sctp_receive_hand::number;
+pub use sctp_receive_hand::piece;
+pub use sctp_receive_hand::put_hand;
 
 // The queue, put back into the fields that C keeps.
 pub fn put(
@@ -35,60 +35,6 @@ pub fn put(
     *unordered = queue.unordered;
     *ordered = queue.ordered;
     *n_bytes = queue.n_bytes;
-}
-
-// The message of these fields. Its SSN and its identifier play no part in its calls.
-pub fn hand(bytes: usize, position: usize, given: bool) -> Chunks
-    ensures { λ r. ⌜ r ≡ handFrom bytes position given ⌝ }
-{
-    Chunks {
-        ssn: 0,
-        ppi: 0,
-        size: bytes,
-        position,
-        given,
-    }
-}
-
-// The message, put back into the fields that C keeps.
-pub fn put_hand(message: Chunks, bytes: &mut usize, position: &mut usize, given: &mut bool)
-    ensures { λ _. ⌜ handFrom (now (bytes .exit)) (now (position .exit)) (now (given .exit)) ≡ handFrom (message .size) (message .position) (message .given) ⌝ }
-{
-    *bytes = message.size;
-    *position = message.position;
-    *given = message.given;
-}
-
-// Yes or no.
-pub fn flag(answer: Flag, is: &mut bool) -> i32
-    ensures { λ r. ⌜ told (back r) (now (is .exit)) ≡ flagTold answer ⌝ }
-{
-    match answer {
-        Flag::Is(b) => {
-            *is = b;
-            -1
-        }
-        Flag::Refused(k) => {
-            *is = false;
-            k as i32
-        }
-    }
-}
-
-// A number.
-pub fn number(answer: Number, n: &mut usize) -> i32
-    ensures { λ r. ⌜ told (back r) (now (n .exit)) ≡ numberTold answer ⌝ }
-{
-    match answer {
-        Number::Is(k) => {
-            *n = k;
-            -1
-        }
-        Number::Refused(k) => {
-            *n = 0;
-            k as i32
-        }
-    }
 }
 
 // Done, or not.
@@ -148,24 +94,5 @@ pub fn applicable(answer: Applicable, found: &mut bool, ssn: &mut u16) -> i32
         }
         Applicable::Nothing => -1,
         Applicable::Refused(k) => k as i32,
-    }
-}
-
-// The place of a piece, if one comes.
-pub fn piece(answer: Piece, found: &mut bool, start: &mut usize, size: &mut usize) -> i32
-    ensures { λ r. ⌜ told (back r) (pieceFrom (now (found .exit)) (now (start .exit)) (now (size .exit))) ≡ pieceTold answer ⌝ }
-{
-    *found = false;
-    *start = 0;
-    *size = 0;
-    match answer {
-        Piece::At(p) => {
-            *found = true;
-            *start = p.start;
-            *size = p.size;
-            -1
-        }
-        Piece::Nothing => -1,
-        Piece::Refused(k) => k as i32,
     }
 }

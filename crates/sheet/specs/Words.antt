@@ -15,9 +15,9 @@ use Rattle.chunk_payload_data.specs.declared.ChunkPayloadData.{ChunkPayloadData
 use Rattle.chunk_payload_data.specs.declared.Unmarshalled as datas
 use Rattle.chunk_selective_ack.specs.Layout.{Sack, Block}
 use Rattle.chunk_selective_ack.specs.Sack.{sackTold, SackFront, sackRead, blocksPart, duplicatesPart, BlockFront, blockTold, blockRead, TsnFront, tsnTold, tsnRead}
-use Rattle.chunk_selective_ack.specs.declared.Unmarshalled as sacks
-use Rattle.chunk_selective_ack.specs.declared.GapAckBlockAt.{GapAckBlockAt}
-use Rattle.chunk_selective_ack.specs.declared.DuplicateTsnAt.{DuplicateTsnAt}
+use Rattle.sack_fields.specs.declared.Unmarshalled as sacks
+use Rattle.sack_entries.specs.declared.GapAckBlockAt.{GapAckBlockAt}
+use Rattle.sack_entries.specs.declared.DuplicateTsnAt.{DuplicateTsnAt}
 use Rattle.payload_model.specs.Queue as tsns
 use Rattle.chunks.specs.Message.{Place, nextPiece}
 use Rattle.chunks.specs.declared.Chunks.{Chunks}

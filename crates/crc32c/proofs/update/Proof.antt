@@ -1,7 +1,7 @@
 -- `crc32c::update` meets its contract: few bytes one after the other; more of them as four parts, made one, and what is left.
 -- Assumes nothing.
 use native.Mathlib.Omega.{arith}
-use Rattle.crc32c.proofs.Parts.{quarters}
+use Rattle.crc32c_lanes.proofs.Parts.{quarters}
 use Rattle.crc32c.proofs.update.Statement.{statement}
 use Rattle.crc32c.proofs.update.Tie as tie
 

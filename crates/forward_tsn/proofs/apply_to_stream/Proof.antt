@@ -8,7 +8,7 @@ use Rattle.wire.specs.Refusal.{refuse, says}
 use Rattle.reassembly_state.specs.State.{State, after, unsound, numBytes}
 use Rattle.reassembly_queue.specs.Queue.{stateOf}
 use Rattle.forward_tsn.specs.Applied.{appliedToStream}
-use Rattle.forward_tsn.proofs.Applied.{look-refused, look-is}
+use Rattle.forward_tsn_drops.proofs.Looks.{look-refused, look-is}
 use Rattle.forward_tsn.proofs.apply_to_stream.Statement.{statement}
 use Rattle.forward_tsn.proofs.apply_to_stream.Tie as tie
 

@@ -2,8 +2,8 @@
 -- Assumes nothing.
 use borrow.Author.Needs.{needs}
 use native.Mathlib.Omega.{arith}
-use Rattle.gap_report.specs.Gap.{blocks}
-use Rattle.gap_report.proofs.Walk.{held, held-few, said, said-short, said-short′}
+use Rattle.gap_model.specs.Gap.{blocks}
+use Rattle.gap_model.proofs.Walk.{held, held-few, said, said-short, said-short′}
 use Rattle.gap_report.proofs.report.Statement.{statement}
 use Rattle.gap_report.proofs.report.Tie as tie
 

@@ -8,7 +8,7 @@ use borrow.Author.Needs.{needs}
 use native.Mathlib.Omega.{arith}
 use lib.ListN.{length, length-take}
 use Rattle.serial.specs.Serial.{compared}
-use Rattle.serial.specs.declared.Order.the-variants.{Later}
+use Rattle.serial_model.specs.declared.Order.the-variants.{Later}
 use Rattle.table.specs.Rows.{tsnBefore, shortLength}
 use Rattle.table.specs.declared.Row.{Row}
 use Rattle.payload_model.specs.Queue.{Queue, queueOf, held, unsound, stored, pushed}

@@ -2,7 +2,7 @@
 -- Assumes nothing.
 use borrow.Author.Needs.{needs}
 use native.Mathlib.Omega.{arith}
-use Rattle.replay_lines.proofs.Put.{all-put}
+use Rattle.replay_words.proofs.Put.{all-put}
 use Rattle.replay_lines.proofs.put_bad_version.Statement.{statement}
 use Rattle.replay_lines.proofs.put_bad_version.Tie as tie
 

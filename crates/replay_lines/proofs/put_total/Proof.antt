@@ -2,7 +2,7 @@
 -- Assumes nothing.
 use borrow.Author.Needs.{needs}
 use native.Mathlib.Omega.{arith}
-use Rattle.replay_lines.proofs.Put.{then, all-put, total-pairs}
+use Rattle.replay_words.proofs.Put.{then, all-put, total-pairs}
 use Rattle.replay_lines.proofs.put_total.Statement.{statement}
 use Rattle.replay_lines.proofs.put_total.Tie as tie
 

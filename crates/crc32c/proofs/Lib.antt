@@ -1,6 +1,0 @@
-pub mod Linear
-pub mod Every
-pub mod Walk
-pub mod Parts
-pub mod Zeros
-pub mod Side

@@ -1,0 +1,4 @@
+pub mod Crc
+pub mod Facts
+pub mod Table
+pub mod Vectors

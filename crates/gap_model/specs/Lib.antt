@@ -1,0 +1,3 @@
+pub mod Adjacent
+pub mod Gap
+pub mod Report

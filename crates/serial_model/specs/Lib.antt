@@ -1,0 +1,3 @@
+pub mod Serial
+pub mod Facts
+pub mod Compared
