@@ -6,6 +6,7 @@ pub mod Packets
 pub mod Queue
 pub mod InFlight
 pub mod Reassembly
+pub mod Streams
 pub mod Hand
 pub mod Causes
 pub mod Replay

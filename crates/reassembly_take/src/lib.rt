@@ -56,7 +56,7 @@ pub fn ready(queue: Counts, table: &[u32]) -> usize
 }
 
 // How many of the n rows from one on the oldest finished message has: through the first E; where there is none, all.
-fn oldest_finished(table: &[u32], from: usize, n: usize) -> usize
+pub fn oldest_finished(table: &[u32], from: usize, n: usize) -> usize
     requires { ⌜ length (now table) ≡ 4 * fragsMost ⌝ }
     requires { ⌜ from + n ≤ fragsMost ⌝ }
     ensures { λ r. ⌜ r ≡ min (suc (aheadOf (ofRow ends) (take n (drop from (rowsOf fragsMost (now (table .entry))))))) n ⌝ }
@@ -87,7 +87,7 @@ fn in_turn(queue: Counts, table: &[u32]) -> Span
 }
 
 // The queue without a message of k fragments and so many bytes: the oldest finished one, else the first ordered set, with its SSN.
-fn without(queue: Counts, k: usize, bytes: usize, ssn: u16) -> Counts
+pub fn without(queue: Counts, k: usize, bytes: usize, ssn: u16) -> Counts
     requires { ⌜ bytes ≤ queue .«n_bytes» ⌝ }
     requires { ⌜ k ≤ cond (ltb 0 (queue .finished)) (queue .finished) (queue .ordered) ⌝ }
     ensures { λ r. ⌜ r ≡ withoutMessage queue k bytes ssn ⌝ }

@@ -1,0 +1,105 @@
+// Skips of one of eight streams, of any eight.
+ghost use mathlib.Core.Path.{_≡_};
+ghost use Rattle.reassembly_state.specs.Answers.{doneTold};
+ghost use Rattle.streams_model.specs.State.{stateOf, after, forwardOrdered, forwardUnordered, forwardBounded};
+use reassembly_state::Done;
+use reassembly_state::WORDS;
+use streams_model::Forwarded;
+use streams_model::STREAMS;
+use streams_model::Streams;
+
+// Drops a stream's incomplete sets at or before an SSN, and expects the one after it; 19 where there is no such stream.
+pub fn forward_tsn_for_ordered(
+    streams: Streams,
+    table: &mut [u32; WORDS],
+    pool: &mut [u8],
+    stream: u16,
+    last_ssn: u16,
+) -> Forwarded
+    ensures { λ r. ⌜ after (doneTold (r .answer)) (stateOf (r .streams) (now (table .exit)) (now (pool .exit))) ≡ forwardOrdered (stateOf streams (now (table .entry)) (now (pool .entry))) stream «last_ssn» ⌝ }
+{
+    if streams_counts::unsound(streams, table, pool) {
+        return Forwarded {
+            answer: Done::Refused(0),
+            streams,
+        };
+    }
+    let number = stream as usize;
+    if STREAMS <= number {
+        return Forwarded {
+            answer: Done::Refused(19),
+            streams,
+        };
+    }
+    Forwarded {
+        answer: Done::All,
+        streams: streams_skips::skip_ordered(streams, table, pool, number, last_ssn),
+    }
+}
+
+// Drops a stream's loose unordered fragments from the front up to the first one after a TSN; 19 where there is no such stream.
+pub fn forward_tsn_for_unordered(
+    streams: Streams,
+    table: &mut [u32; WORDS],
+    pool: &mut [u8],
+    stream: u16,
+    new_cumulative_tsn: u32,
+) -> Forwarded
+    ensures { λ r. ⌜ after (doneTold (r .answer)) (stateOf (r .streams) (now (table .exit)) (now (pool .exit))) ≡ forwardUnordered (stateOf streams (now (table .entry)) (now (pool .entry))) stream «new_cumulative_tsn» ⌝ }
+{
+    if streams_counts::unsound(streams, table, pool) {
+        return Forwarded {
+            answer: Done::Refused(0),
+            streams,
+        };
+    }
+    let number = stream as usize;
+    if STREAMS <= number {
+        return Forwarded {
+            answer: Done::Refused(19),
+            streams,
+        };
+    }
+    Forwarded {
+        answer: Done::All,
+        streams: streams_skips::skip_unordered(streams, table, pool, number, new_cumulative_tsn),
+    }
+}
+
+// Drops a stream's incomplete sets at or before an SSN that a cumulative point reaches, and expects the first set that it does not reach, or the
+// SSN after the last, where that is later than what is expected; 19 where there is no such stream.
+pub fn forward_tsn_for_ordered_bounded(
+    streams: Streams,
+    table: &mut [u32; WORDS],
+    pool: &mut [u8],
+    stream: u16,
+    last_ssn: u16,
+    new_cumulative_tsn: u32,
+) -> Forwarded
+    ensures { λ r. ⌜ after (doneTold (r .answer)) (stateOf (r .streams) (now (table .exit)) (now (pool .exit))) ≡ forwardBounded (stateOf streams (now (table .entry)) (now (pool .entry))) stream «last_ssn» «new_cumulative_tsn» ⌝ }
+{
+    if streams_counts::unsound(streams, table, pool) {
+        return Forwarded {
+            answer: Done::Refused(0),
+            streams,
+        };
+    }
+    let number = stream as usize;
+    if STREAMS <= number {
+        return Forwarded {
+            answer: Done::Refused(19),
+            streams,
+        };
+    }
+    Forwarded {
+        answer: Done::All,
+        streams: streams_skips::skip_bounded(
+            streams,
+            table,
+            pool,
+            number,
+            last_ssn,
+            new_cumulative_tsn,
+        ),
+    }
+}

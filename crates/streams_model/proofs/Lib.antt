@@ -1,0 +1,12 @@
+pub mod Seven
+pub mod Laws
+pub mod Among
+pub mod Beside
+pub mod Exact
+pub mod Moved
+pub mod Opened
+pub mod Left
+pub mod Front
+pub mod Totals
+pub mod Laid
+pub mod Rooms

@@ -1,0 +1,5 @@
+pub mod Limits
+pub mod Shape
+pub mod Room
+pub mod State
+pub mod Among

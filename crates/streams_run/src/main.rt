@@ -1,0 +1,141 @@
+// Eight streams in one pool, run: what one stream may hold, what each of the others is sure of then, and what comes free.
+use chunk_payload_data::ChunkPayloadData;
+use chunks::Flag;
+use chunks::Number;
+use reassembly_state::BYTES;
+use reassembly_state::Took;
+use reassembly_state::WORDS;
+use reassembly_streams::Streams;
+
+fn main() {
+    let mut table = [0u32; WORDS];
+    let mut pool = [0u8; BYTES];
+    let streams = reassembly_streams::new(1000);
+    let streams = fill(streams, &mut table, &mut pool, 3, 400);
+    let streams = fill(streams, &mut table, &mut pool, 0, 16);
+    let streams = fill(streams, &mut table, &mut pool, 7, 16);
+    let streams = fill(streams, &mut table, &mut pool, 8, 0);
+    print::text(b"Stream 3 skips to TSN 199: ");
+    let left = reassembly_streams::forward_tsn_for_unordered(
+        streams,
+        &mut table,
+        &mut pool,
+        3,
+        199,
+    );
+    held(left.streams, &table, &pool, 3);
+    print::text(b"\n");
+    let streams = fill(left.streams, &mut table, &mut pool, 7, 84);
+    let streams = message(streams, &mut table, &mut pool, 0);
+    let streams = message(streams, &mut table, &mut pool, 7);
+    held(streams, &table, &pool, 3);
+    print::text(b" of stream 3, ");
+    held(streams, &table, &pool, 7);
+    print::text(b" of stream 7.\n");
+}
+
+// A chunk of a stream, the first or the last of its message or neither.
+fn chunk(stream: u16, tsn: u32, unordered: bool, first: bool, last: bool) -> ChunkPayloadData {
+    ChunkPayloadData {
+        unordered,
+        beginning_fragment: first,
+        ending_fragment: last,
+        immediate_sack: false,
+        tsn,
+        stream_identifier: stream,
+        stream_sequence_number: 0,
+        payload_type: 51,
+    }
+}
+
+// So many unordered fragments of one byte more for a stream, each the first of a message, and then one more, whose answer is told.
+fn fill(
+    streams: Streams,
+    table: &mut [u32; WORDS],
+    pool: &mut [u8],
+    stream: u16,
+    n: u32,
+) -> Streams {
+    let mut now = streams;
+    let mut i: u32 = 0;
+    while i < n {
+        let c = chunk(
+            stream,
+            (stream as u32) % 8 * 100000 + i * 2,
+            true,
+            true,
+            false,
+        );
+        let left = reassembly_streams::push(now, table, pool, stream, c, b"x");
+        now = left.streams;
+        i += 1;
+    }
+    print::with_number(b"Stream # holds ", stream as u64);
+    held(now, table, pool, stream);
+    print::text(b", one more: ");
+    let c = chunk(
+        stream,
+        (stream as u32) % 8 * 100000 + 90000,
+        true,
+        true,
+        false,
+    );
+    let left = reassembly_streams::push(now, table, pool, stream, c, b"x");
+    told(left.answer);
+    left.streams
+}
+
+// An ordered message of two chunks, the last first, and what comes of it.
+fn message(streams: Streams, table: &mut [u32; WORDS], pool: &mut [u8], stream: u16) -> Streams {
+    let mut buffer = [0u8; 8];
+    print::with_number(b"Stream #: ", stream as u64);
+    let last = reassembly_streams::push(
+        streams,
+        table,
+        pool,
+        stream,
+        chunk(stream, 7, false, false, true),
+        b"lo",
+    );
+    told(last.answer);
+    let first = reassembly_streams::push(
+        last.streams,
+        table,
+        pool,
+        stream,
+        chunk(stream, 6, false, true, false),
+        b"hel",
+    );
+    told(first.answer);
+    let taken = reassembly_streams::read(first.streams, table, pool, stream, &mut buffer);
+    let answer = taken.answer;
+    match answer {
+        Took::Message(m) => {
+            print::quoted(print::first(&buffer, m.size));
+            print::text(b"\n");
+        }
+        Took::Nothing => print::text(b"none\n"),
+        Took::Refused(number) => print::number_line(b"", number as u64),
+    }
+    taken.streams
+}
+
+// How many bytes a stream holds.
+fn held(streams: Streams, table: &[u32; WORDS], pool: &[u8], stream: u16) {
+    let answer = reassembly_streams::get_num_bytes(streams, table, pool, stream);
+    match answer {
+        Number::Is(n) => print::number(n as u64),
+        Number::Refused(number) => {
+            print::text(b"refusal ");
+            print::number(number as u64);
+        }
+    }
+}
+
+// What a push answered.
+fn told(answer: Flag) {
+    match answer {
+        Flag::Is(whole) => print::flag_line(b"complete: ", whole),
+        Flag::Refused(number) => print::number_line(b"refusal ", number as u64),
+    }
+}

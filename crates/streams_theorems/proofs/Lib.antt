@@ -1,0 +1,17 @@
+pub mod Room
+pub mod Stored
+pub mod Acts
+pub mod Good
+pub mod Stays
+pub mod Follow
+pub mod Single
+pub mod Alone
+pub mod Fine
+pub mod Arrives
+pub mod Rule
+pub mod Skips
+pub mod Own
+pub mod Example
+pub mod SkipExample
+pub mod Needed
+pub mod Theorem

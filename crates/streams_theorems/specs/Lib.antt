@@ -1,0 +1,5 @@
+pub mod Runs
+pub mod Alone
+pub mod Rule
+pub mod Arrives
+pub mod Skips
