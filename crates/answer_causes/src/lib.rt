@@ -9,52 +9,73 @@ use answer_text::out::SPACE;
 use error_causes::Counted;
 
 // The number of causes, or the refusal, and the four lists.
-pub fn written(call: &[u8], out: &mut [u8; SPACE], at: usize) -> usize {
+pub fn call(call: &[u8], out: &mut [u8; SPACE], at: usize) -> usize {
     let mut codes = [0u16; CAUSES];
     let mut depths = [0u16; CAUSES];
     let mut starts = [0u16; CAUSES];
     let mut sizes = [0u16; CAUSES];
-    let rooms = operands::behind_raw(call);
-    let fill = operands::u16_at(rooms, 8);
-    lists::fill_shorts(&mut codes, CAUSES, fill);
-    lists::fill_shorts(&mut depths, CAUSES, fill);
-    lists::fill_shorts(&mut starts, CAUSES, fill);
-    lists::fill_shorts(&mut sizes, CAUSES, fill);
-    let told = read(
-        call,
-        rooms,
-        &mut codes,
-        &mut depths,
-        &mut starts,
-        &mut sizes,
-    );
+    let told = codes_lent(call, &mut codes, &mut depths, &mut starts, &mut sizes);
     let at = answer::write(told, out, at);
-    let at = list(b" codes", &codes, operands::count_at(rooms, 0), out, at);
-    let at = list(b" depths", &depths, operands::count_at(rooms, 2), out, at);
-    let at = list(b" starts", &starts, operands::count_at(rooms, 4), out, at);
-    list(b" sizes", &sizes, operands::count_at(rooms, 6), out, at)
+    let rooms = operands::behind_raw(call);
+    let at = list(0, &codes, rooms, out, at);
+    let at = list(2, &depths, rooms, out, at);
+    let at = list(4, &starts, rooms, out, at);
+    list(6, &sizes, rooms, out, at)
 }
 
-// As much of each list is lent as the call says.
-fn read(
+// How much of the list of a place among the rooms is lent, after it was filled.
+fn room(call: &[u8], list: &mut [u16], place: usize) -> usize {
+    let rooms = operands::behind_raw(call);
+    lists::fill_shorts(list, CAUSES, operands::u16_at(rooms, 8));
+    operands::count_at(rooms, place)
+}
+
+// Of one list after the other, as much is lent as the call says.
+fn codes_lent(
     call: &[u8],
-    rooms: &[u8],
+    codes: &mut [u16],
+    depths: &mut [u16; CAUSES],
+    starts: &mut [u16; CAUSES],
+    sizes: &mut [u16; CAUSES],
+) -> Answer {
+    let n = operands::most(room(call, codes, 0), codes.len());
+    depths_lent(call, &mut codes[0..n], depths, starts, sizes)
+}
+
+fn depths_lent(
+    call: &[u8],
+    codes: &mut [u16],
+    depths: &mut [u16],
+    starts: &mut [u16; CAUSES],
+    sizes: &mut [u16; CAUSES],
+) -> Answer {
+    let n = operands::most(room(call, depths, 2), depths.len());
+    starts_lent(call, codes, &mut depths[0..n], starts, sizes)
+}
+
+fn starts_lent(
+    call: &[u8],
+    codes: &mut [u16],
+    depths: &mut [u16],
+    starts: &mut [u16],
+    sizes: &mut [u16; CAUSES],
+) -> Answer {
+    let n = operands::most(room(call, starts, 4), starts.len());
+    sizes_lent(call, codes, depths, &mut starts[0..n], sizes)
+}
+
+fn sizes_lent(
+    call: &[u8],
     codes: &mut [u16],
     depths: &mut [u16],
     starts: &mut [u16],
     sizes: &mut [u16],
 ) -> Answer {
-    let a = operands::most(operands::count_at(rooms, 0), codes.len());
-    let b = operands::most(operands::count_at(rooms, 2), depths.len());
-    let c = operands::most(operands::count_at(rooms, 4), starts.len());
-    let d = operands::most(operands::count_at(rooms, 6), sizes.len());
-    let told = unmarshal(
-        call,
-        &mut codes[0..a],
-        &mut depths[0..b],
-        &mut starts[0..c],
-        &mut sizes[0..d],
-    );
+    let n = operands::most(room(call, sizes, 6), sizes.len());
+    counted(unmarshal(call, codes, depths, starts, &mut sizes[0..n]))
+}
+
+fn counted(told: Counted) -> Answer {
     match told {
         Counted::Causes(n) => answer::one(answer::CAUSES, n as u64),
         Counted::Refused(k) => answer::refused(k),
@@ -75,8 +96,24 @@ fn unmarshal(
     chunk_abort::unmarshal(raw, codes, depths, starts, sizes)
 }
 
-// The first n numbers of a list, behind its name.
-fn list(name: &[u8], numbers: &[u16], n: usize, out: &mut [u8; SPACE], at: usize) -> usize {
-    let at = out::text(out, at, name);
+// The names of the lists, each in eight bytes, of which those from a low line on are none of it.
+const NAMES: [u8; 32] = *b" codes__ depths_ starts_ sizes__";
+
+// As many numbers of a list as its room has, which stands at a place among the rooms, behind its name.
+fn list(
+    place: usize,
+    numbers: &[u16; CAUSES],
+    rooms: &[u8],
+    out: &mut [u8; SPACE],
+    at: usize,
+) -> usize {
+    let at = name(4 * (place % 8), out, at);
+    let n = operands::count_at(rooms, place);
     out::shorts(out, at, lists::first_shorts(numbers, n))
+}
+
+fn name(from: usize, out: &mut [u8; SPACE], at: usize) -> usize {
+    let names = NAMES;
+    let to = std::num::wrapping_add_usize(from, 8);
+    out::text(out, at, out::trimmed(&names, from, to))
 }

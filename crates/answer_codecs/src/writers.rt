@@ -7,21 +7,33 @@ use answer_text::lists;
 use answer_text::operands;
 use answer_text::operands::BYTES;
 use answer_text::operands::NUMBERS;
+use answer_text::out;
+use answer_text::out::LINES;
+use answer_text::out::SPACE;
 
 // All bytes of the room that the call says are shown behind the answer.
-pub fn call(call: &[u8], lent: &mut [u8; BYTES]) -> Answer {
+pub fn call(call: &[u8], out: &mut [u8; SPACE], at: usize) -> usize {
     let room = operands::most(operands::size_at(call, 1), BYTES);
-    lists::fill(lent, room, operands::u8_at(call, 5));
-    answer::showing(marshal(call, lent, room), answer::SPARE, 0, room)
+    lists::fill_room(out, room, operands::u8_at(call, 5));
+    let told = lent(call, out, LINES + room);
+    let at = answer::write(told, out, at);
+    out::room(out, at, room)
 }
 
-fn marshal(call: &[u8], lent: &mut [u8], room: usize) -> Answer {
-    let room = operands::most(room, lent.len());
-    let lent = &mut lent[0..room];
+// The room, up to where it ends.
+fn lent(call: &[u8], out: &mut [u8], end: usize) -> Answer {
+    let end = operands::most(end, out.len());
+    if end < LINES {
+        return answer::refused(0);
+    }
+    marshal(call, &mut out[LINES..end])
+}
+
+fn marshal(call: &[u8], room: &mut [u8]) -> Answer {
     match operands::u8_at(call, 0) {
-        8 => data_marshal(call, lent),
-        56 => forward::marshal(call, lent),
-        _ => sack_marshal(call, lent),
+        8 => data_marshal(call, room),
+        56 => forward::marshal(call, room),
+        _ => sack_marshal(call, room),
     }
 }
 

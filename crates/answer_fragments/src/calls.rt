@@ -1,82 +1,65 @@
 // The calls of the reassembly queue; without rq_read.
 use crate::forge;
+use crate::kept;
+use crate::kept::POOL;
 use crate::shown;
-use crate::state;
-use crate::state::Fragments;
-use crate::state::POOL;
 use answer_text::answer;
 use answer_text::answer::Answer;
+use answer_text::kept::KEPT;
 use answer_text::lists;
 use answer_text::operands;
-use answer_text::operands::BYTES;
+use answer_text::out::SPACE;
+use chunk_payload_data::ChunkPayloadData;
 use chunks::Flag;
 use chunks::Number;
 use reassembly_queue::Applicable;
 use reassembly_queue::Done;
-use reassembly_queue::Forwarded;
+use reassembly_queue::Pushed;
 use reassembly_queue::ReassemblyQueue;
 use reassembly_queue::WORDS;
 
 pub fn told(
-    state: Fragments,
+    state: &mut [u64; KEPT],
     call: &[u8],
     table: &mut [u32; WORDS],
     pool: &mut [u8; POOL],
-    user: &mut [u8; BYTES],
-) -> Fragments {
+) -> Answer {
     match operands::u8_at(call, 0) {
-        33 => push(state, call, table, pool, user),
-        34 | 36 | 37 | 38 | 42 | 43 => lent(state, call, table, pool),
+        32 => new(state, call),
+        36 | 37 | 42 => skip(state, call, table, pool),
         40 => forge::fragments(state, call, table, pool),
-        41 => state::with_queue(state, state.queue, shown::whole(state.queue, table, pool)),
-        _ => new(state, call),
+        _ => asked(state, call, table, pool),
     }
 }
 
-fn new(state: Fragments, call: &[u8]) -> Fragments {
+fn new(state: &mut [u64; KEPT], call: &[u8]) -> Answer {
     let queue = ReassemblyQueue::new(operands::u16_at(call, 1), operands::u32_at(call, 3));
-    state::with_queue(state, queue, answer::plain(answer::DONE))
+    kept::put(state, queue);
+    answer::plain(answer::DONE)
 }
 
-// The calls that are lent as much of the pool as is lent.
-fn lent(state: Fragments, call: &[u8], table: &mut [u32; WORDS], pool: &mut [u8]) -> Fragments {
-    let n = operands::most(state.pool, pool.len());
-    let pool = &mut pool[0..n];
-    let queue = state.queue;
-    match operands::u8_at(call, 0) {
-        34 => state::with_queue(state, queue, flag(queue.is_readable(table, pool))),
-        38 => state::with_queue(state, queue, number(queue.get_num_bytes(table, pool))),
-        43 => state::with_queue(state, queue, applicable(queue, call, table, pool)),
-        _ => forwarded(state, skipped(queue, call, table, pool)),
-    }
+// How much is lent of the pool.
+pub fn lent(state: &[u64; KEPT]) -> usize {
+    answer_text::kept::size(state, kept::LENT)
 }
 
-fn skipped(
-    queue: ReassemblyQueue,
-    call: &[u8],
-    table: &mut [u32; WORDS],
-    pool: &mut [u8],
-) -> Forwarded {
+// The calls that change nothing.
+fn asked(state: &[u64; KEPT], call: &[u8], table: &[u32; WORDS], pool: &[u8; POOL]) -> Answer {
+    let queue = kept::queue(state);
+    let part = operands::first(pool, lent(state));
     match operands::u8_at(call, 0) {
-        36 => queue.forward_tsn_for_ordered(table, pool, operands::u16_at(call, 1)),
-        42 => queue.forward_tsn_for_ordered_bounded(
-            table,
-            pool,
-            operands::u16_at(call, 1),
-            operands::u32_at(call, 3),
-        ),
-        _ => queue.forward_tsn_for_unordered(table, pool, operands::u32_at(call, 1)),
+        34 => flag(queue.is_readable(table, part)),
+        38 => number(queue.get_num_bytes(table, part)),
+        43 => applicable(queue, call, table, part),
+        _ => shown::whole(queue, table, pool),
     }
 }
 
 fn applicable(queue: ReassemblyQueue, call: &[u8], table: &[u32; WORDS], pool: &[u8]) -> Answer {
-    let told = queue.applicable_forward_tsn_for_ordered_bounded(
-        table,
-        pool,
-        operands::u16_at(call, 1),
-        operands::u32_at(call, 3),
-        operands::u32_at(call, 7),
-    );
+    let ssn = operands::u16_at(call, 1);
+    let tsn = operands::u32_at(call, 3);
+    let peer = operands::u32_at(call, 7);
+    let told = queue.applicable_forward_tsn_for_ordered_bounded(table, pool, ssn, tsn, peer);
     match told {
         Applicable::Ssn(ssn) => answer::one(answer::NUMBER, ssn as u64),
         Applicable::Nothing => answer::plain(answer::NONE),
@@ -98,29 +81,67 @@ pub fn number(told: Number) -> Answer {
     }
 }
 
-fn push(
-    state: Fragments,
+pub fn done(told: Done) -> Answer {
+    match told {
+        Done::All => answer::plain(answer::DONE),
+        Done::Refused(k) => answer::refused(k),
+    }
+}
+
+// The skips.
+fn skip(state: &mut [u64; KEPT], call: &[u8], table: &mut [u32; WORDS], pool: &mut [u8]) -> Answer {
+    let n = operands::most(lent(state), pool.len());
+    let queue = kept::queue(state);
+    let forwarded = skipped(queue, call, table, &mut pool[0..n]);
+    let told = forwarded.answer;
+    let queue = forwarded.queue;
+    kept::put(state, queue);
+    done(told)
+}
+
+fn skipped(
+    queue: ReassemblyQueue,
     call: &[u8],
     table: &mut [u32; WORDS],
     pool: &mut [u8],
-    user: &mut [u8; BYTES],
-) -> Fragments {
-    let size = operands::size_at(call, 14);
-    lists::pattern(user, size, operands::u8_at(call, 18));
-    let chunk = operands::fields(operands::part(call, 1, 14));
-    let n = operands::most(state.pool, pool.len());
-    let queue = state.queue;
-    let pushed = queue.push(table, &mut pool[0..n], chunk, operands::first(user, size));
-    let told = pushed.answer;
-    state::with_queue(state, pushed.queue, flag(told))
+) -> reassembly_queue::Forwarded {
+    let ssn = operands::u16_at(call, 1);
+    match operands::u8_at(call, 0) {
+        36 => queue.forward_tsn_for_ordered(table, pool, ssn),
+        42 => {
+            let point = operands::u32_at(call, 3);
+            queue.forward_tsn_for_ordered_bounded(table, pool, ssn, point)
+        }
+        _ => queue.forward_tsn_for_unordered(table, pool, operands::u32_at(call, 1)),
+    }
 }
 
-// After a skip.
-pub fn forwarded(state: Fragments, forwarded: Forwarded) -> Fragments {
-    let told = forwarded.answer;
-    let answer = match told {
-        Done::All => answer::plain(answer::DONE),
-        Done::Refused(k) => answer::refused(k),
-    };
-    state::with_queue(state, forwarded.queue, answer)
+// The data stands in the room behind the lines.
+pub fn push(
+    state: &mut [u64; KEPT],
+    call: &[u8],
+    table: &mut [u32; WORDS],
+    pool: &mut [u8; POOL],
+    out: &mut [u8; SPACE],
+) -> Answer {
+    let size = operands::size_at(call, 14);
+    lists::pattern_room(out, size, operands::u8_at(call, 18));
+    let chunk = operands::fields(operands::part(call, 1, 14));
+    pushed(state, table, pool, chunk, lists::room(out, size))
+}
+
+fn pushed(
+    state: &mut [u64; KEPT],
+    table: &mut [u32; WORDS],
+    pool: &mut [u8],
+    chunk: ChunkPayloadData,
+    user: &[u8],
+) -> Answer {
+    let n = operands::most(lent(state), pool.len());
+    let queue = kept::queue(state);
+    let pushed: Pushed = queue.push(table, &mut pool[0..n], chunk, user);
+    let told = pushed.answer;
+    let queue = pushed.queue;
+    kept::put(state, queue);
+    flag(told)
 }

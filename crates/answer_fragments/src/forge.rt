@@ -1,74 +1,44 @@
 // Calls that set one field of the reassembly queue, one word of its table, or one byte of the pool.
-use crate::state;
-use crate::state::Fragments;
-use crate::state::POOL;
+use crate::kept::POOL;
+use crate::kept::SI;
 use answer_text::answer;
+use answer_text::answer::Answer;
+use answer_text::kept;
+use answer_text::kept::KEPT;
 use answer_text::operands;
-use reassembly_queue::ReassemblyQueue;
+use reassembly_queue::WORDS;
 
 pub fn fragments(
-    state: Fragments,
+    state: &mut [u64; KEPT],
     call: &[u8],
-    table: &mut [u32; reassembly_queue::WORDS],
+    table: &mut [u32; WORDS],
     pool: &mut [u8; POOL],
-) -> Fragments {
-    let value = operands::u64_at(call, 4);
+) -> Answer {
     let field = operands::u8_at(call, 1);
-    lists(field, operands::count_at(call, 2), value, table, pool);
-    let mut state = state;
-    state.pool = lent(field, value, state.pool);
-    let queue = state.queue;
-    state::with_queue(
-        state,
-        forged(queue, field, value),
-        answer::plain(answer::DONE),
-    )
-}
-
-// The value, cut to a width.
-fn word(value: u64) -> u32 {
-    (value % 4294967296) as u32
-}
-
-fn short(value: u64) -> u16 {
-    (value % 65536) as u16
-}
-
-// The table and the pool, where the field is one of theirs.
-fn lists(
-    field: u8,
-    index: usize,
-    value: u64,
-    table: &mut [u32; reassembly_queue::WORDS],
-    pool: &mut [u8; POOL],
-) {
+    let index = operands::count_at(call, 2);
+    let value = operands::u64_at(call, 4);
     match field {
-        7 => table[index % reassembly_queue::WORDS] = word(value),
+        7 => table[index % WORDS] = kept::word(value),
         8 => pool[index % POOL] = (value % 256) as u8,
-        _ => {}
+        _ => kept::set(state, place(field), cut(field, value)),
     }
+    answer::plain(answer::DONE)
 }
 
-// How much is lent of the pool from now on.
-fn lent(field: u8, value: u64, before: usize) -> usize {
-    match field {
-        9 => (value % (POOL as u64 + 1)) as usize,
-        _ => before,
+// The fields stand in their order, how much is lent of the pool behind them.
+fn place(field: u8) -> usize {
+    if field == 9 {
+        return SI + 7;
     }
+    SI + (field % 7) as usize
 }
 
-// The queue's own fields.
-fn forged(queue: ReassemblyQueue, field: u8, value: u64) -> ReassemblyQueue {
-    let mut queue = queue;
+// The value, cut to the field's width.
+fn cut(field: u8, value: u64) -> u64 {
     match field {
-        0 => queue.si = short(value),
-        1 => queue.next_ssn = short(value),
-        2 => queue.max_message_size = word(value),
-        3 => queue.finished = value as usize,
-        4 => queue.unordered = value as usize,
-        5 => queue.ordered = value as usize,
-        6 => queue.n_bytes = value as usize,
-        _ => {}
+        0 | 1 => value % 65536,
+        2 => value % 4294967296,
+        9 => value % (POOL as u64 + 1),
+        _ => value,
     }
-    queue
 }

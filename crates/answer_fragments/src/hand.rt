@@ -1,87 +1,103 @@
 // The calls of the message in hand.
 use crate::calls;
-use crate::state;
-use crate::state::Fragments;
-use crate::state::Hand;
+use crate::kept;
 use answer_text::answer;
 use answer_text::answer::Answer;
+use answer_text::kept::KEPT;
 use answer_text::lists;
 use answer_text::operands;
 use answer_text::operands::BYTES;
+use answer_text::out;
+use answer_text::out::LINES;
+use answer_text::out::SPACE;
 use chunks::Chunks;
 use chunks::Next;
 use chunks::Part;
 use chunks::Piece;
 
-pub fn told(
-    state: Fragments,
+pub fn call(
+    state: &mut [u64; KEPT],
     call: &[u8],
     buffer: &[u8; BYTES],
-    lent: &mut [u8; BYTES],
-) -> Fragments {
-    let hand = state.hand;
-    if !hand.held {
-        return state::with_hand(state, hand, answer::plain(answer::EMPTY_HANDED));
+    out: &mut [u8; SPACE],
+    at: usize,
+) -> usize {
+    if state[kept::HELD] == 0 {
+        return answer::write(answer::plain(answer::EMPTY_HANDED), out, at);
     }
-    let held = operands::first(buffer, hand.lent);
+    let held = operands::first(buffer, answer_text::kept::size(state, kept::ROOM));
     match operands::u8_at(call, 0) {
-        50 => state::with_hand(state, hand, read(hand.message, call, held, lent)),
-        51 => moved(state, call, held),
-        52 => state::with_hand(state, forged(hand, call), answer::plain(answer::DONE)),
-        _ => state::with_hand(state, hand, asked(hand.message, call, held)),
+        50 => read(state, call, held, out, at),
+        51 => moved(state, call, held, out, at),
+        _ => answer::write(told(state, call, held), out, at),
+    }
+}
+
+fn told(state: &mut [u64; KEPT], call: &[u8], held: &[u8]) -> Answer {
+    match operands::u8_at(call, 0) {
+        52 => forged(state, call),
+        48 => calls::number(kept::message(state).len(held)),
+        _ => calls::flag(kept::message(state).is_empty(held)),
     }
 }
 
 // The next piece; its bytes stand behind its place.
-fn moved(state: Fragments, call: &[u8], held: &[u8]) -> Fragments {
-    let hand = state.hand;
-    let message = hand.message;
+fn moved(
+    state: &mut [u64; KEPT],
+    call: &[u8],
+    held: &[u8],
+    out: &mut [u8; SPACE],
+    at: usize,
+) -> usize {
+    let message = kept::message(state);
     let next: Next = message.next(held, operands::u64_at(call, 1) as usize);
     let told = next.answer;
-    let hand = state::holding(next.message, hand.lent, hand.reach);
-    state::with_hand(state, hand, piece(told))
+    let message = next.message;
+    kept::put_message(state, message);
+    piece(told, held, out, at)
 }
 
-fn piece(told: Piece) -> Answer {
+fn piece(told: Piece, held: &[u8], out: &mut [u8; SPACE], at: usize) -> usize {
     match told {
-        Piece::At(p) => at(p),
-        Piece::Nothing => answer::plain(answer::NONE),
-        Piece::Refused(k) => answer::refused(k),
+        Piece::At(p) => part(p, held, out, at),
+        Piece::Nothing => answer::write(answer::plain(answer::NONE), out, at),
+        Piece::Refused(k) => answer::write(answer::refused(k), out, at),
     }
 }
 
-fn at(p: Part) -> Answer {
+fn part(p: Part, held: &[u8], out: &mut [u8; SPACE], at: usize) -> usize {
     let told = answer::five(answer::PIECE, 2, p.start as u64, p.size as u64, 0, 0, 0);
+    let at = answer::write(told, out, at);
     let to = std::num::wrapping_add_usize(p.start, p.size);
-    answer::showing(told, answer::HAND, p.start, to)
+    out::bytes(out, at, operands::part(held, p.start, to))
 }
 
 // One field of the message, or how many bytes of its buffer are lent.
-fn forged(hand: Hand, call: &[u8]) -> Hand {
+fn forged(state: &mut [u64; KEPT], call: &[u8]) -> Answer {
     let value = operands::u64_at(call, 2);
-    let mut message = hand.message;
-    let mut lent = hand.lent;
     match operands::u8_at(call, 1) {
-        0 => message.size = value as usize,
-        1 => message.position = value as usize,
-        2 => message.given = value != 0,
-        _ => lent = (value % 65601) as usize,
+        0 => state[kept::SIZE] = value,
+        1 => state[kept::POSITION] = value,
+        2 => state[kept::GIVEN] = value,
+        _ => state[kept::ROOM] = value % 65601,
     }
-    state::holding(message, lent, hand.reach)
-}
-
-// Its size, and whether it is empty.
-fn asked(message: Chunks, call: &[u8], held: &[u8]) -> Answer {
-    if operands::u8_at(call, 0) == 48 {
-        return calls::number(message.len(held));
-    }
-    calls::flag(message.is_empty(held))
+    answer::plain(answer::DONE)
 }
 
 // The whole read, into as much room as the call says, all of which stands behind the answer.
-fn read(message: Chunks, call: &[u8], held: &[u8], lent: &mut [u8]) -> Answer {
-    let room = operands::most(operands::size_at(call, 1), lent.len());
-    lists::fill(lent, room, operands::u8_at(call, 5));
-    let told = calls::number(message.read(held, &mut lent[0..room]));
-    answer::showing(told, answer::SPARE, 0, room)
+fn read(state: &[u64; KEPT], call: &[u8], held: &[u8], out: &mut [u8; SPACE], at: usize) -> usize {
+    let room = operands::most(operands::size_at(call, 1), BYTES);
+    lists::fill_room(out, room, operands::u8_at(call, 5));
+    let told = lent(kept::message(state), held, out, LINES + room);
+    let at = answer::write(told, out, at);
+    out::room(out, at, room)
+}
+
+// The room, up to where it ends.
+fn lent(message: Chunks, held: &[u8], out: &mut [u8], end: usize) -> Answer {
+    let end = operands::most(end, out.len());
+    if end < LINES {
+        return answer::refused(0);
+    }
+    calls::number(message.read(held, &mut out[LINES..end]))
 }

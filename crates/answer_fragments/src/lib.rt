@@ -1,11 +1,48 @@
 // The calls of the reassembly queue and of the message in hand.
 mod calls;
 mod forge;
-pub mod hand;
-pub mod shown;
-pub mod state;
+mod hand;
+pub mod kept;
+mod shown;
 mod taken;
 
-pub use calls::forwarded;
-pub use calls::told;
-pub use taken::read;
+use answer_text::answer;
+use answer_text::kept::KEPT;
+use answer_text::operands;
+use answer_text::operands::BYTES;
+use answer_text::out::SPACE;
+pub use calls::done;
+pub use calls::lent;
+use kept::POOL;
+use reassembly_queue::WORDS;
+
+pub fn call(
+    state: &mut [u64; KEPT],
+    call: &[u8],
+    table: &mut [u32; WORDS],
+    pool: &mut [u8; POOL],
+    buffer: &mut [u8; BYTES],
+    out: &mut [u8; SPACE],
+    at: usize,
+) -> usize {
+    match operands::u8_at(call, 0) {
+        35 => taken::read(state, call, table, pool, buffer, out, at),
+        48..=52 => hand::call(state, call, buffer, out, at),
+        _ => queue(state, call, table, pool, out, at),
+    }
+}
+
+fn queue(
+    state: &mut [u64; KEPT],
+    call: &[u8],
+    table: &mut [u32; WORDS],
+    pool: &mut [u8; POOL],
+    out: &mut [u8; SPACE],
+    at: usize,
+) -> usize {
+    match operands::u8_at(call, 0) {
+        33 => answer::write(calls::push(state, call, table, pool, out), out, at),
+        39 => shown::stands(kept::queue(state), table, pool, out, at),
+        _ => answer::write(calls::told(state, call, table, pool), out, at),
+    }
+}

@@ -1,5 +1,5 @@
 // The reassembly queue as it stands: its own numbers, its records, and their data.
-use crate::state::POOL;
+use crate::kept::POOL;
 use answer_text::answer;
 use answer_text::answer::Answer;
 use answer_text::digest;
@@ -12,10 +12,10 @@ use reassembly_queue::WORDS;
 
 pub fn stands(
     queue: ReassemblyQueue,
-    out: &mut [u8; SPACE],
-    at: usize,
     table: &[u32; WORDS],
     pool: &[u8; POOL],
+    out: &mut [u8; SPACE],
+    at: usize,
 ) -> usize {
     let at = answer::write(numbers(queue), out, at);
     records(queue, out, at, table, pool)
@@ -75,7 +75,8 @@ fn end_of(from: usize, head: u32) -> usize {
 }
 
 fn record(out: &mut [u8; SPACE], at: usize, kind: u8, table: &[u32; WORDS], i: usize) -> usize {
-    let at = out::text(out, at, b" | ");
+    let at = answer::bar(out, at);
+    let at = out::byte(out, at, b' ');
     let at = out::byte(out, at, kind);
     answer::write_fields(fields(table, i), out, at)
 }

@@ -1,83 +1,101 @@
 // rq_read: a message that is taken is in hand from then on, in the buffer that was lent for it.
-use crate::state;
-use crate::state::Fragments;
-use crate::state::Hand;
-use crate::state::POOL;
+use crate::calls;
+use crate::kept;
+use crate::kept::POOL;
 use answer_text::answer;
 use answer_text::answer::Answer;
+use answer_text::kept::KEPT;
 use answer_text::lists;
 use answer_text::operands;
 use answer_text::operands::BYTES;
+use answer_text::out;
+use answer_text::out::SPACE;
 use chunks::Chunks;
 use reassembly_queue::ReassemblyQueue;
 use reassembly_queue::Taken;
 use reassembly_queue::Took;
 use reassembly_queue::WORDS;
 
-// What the buffer held before is cleared, so that all behind the new room is 0.
+// All bytes of the room stand behind the answer.
 pub fn read(
-    state: Fragments,
+    state: &mut [u64; KEPT],
     call: &[u8],
     table: &mut [u32; WORDS],
     pool: &mut [u8; POOL],
     buffer: &mut [u8; BYTES],
-) -> Fragments {
-    let hand = state.hand;
-    lists::fill(buffer, hand.reach, 0);
+    out: &mut [u8; SPACE],
+    at: usize,
+) -> usize {
+    let room = readied(state, call, buffer);
+    let told = taken(state, table, pool, buffer, room);
+    let at = answer::write(told, out, at);
+    out::bytes(out, at, operands::first(buffer, room))
+}
+
+// What the buffer held before is cleared, so that all behind the new room is 0; how much is lent of it.
+fn readied(state: &[u64; KEPT], call: &[u8], buffer: &mut [u8; BYTES]) -> usize {
+    lists::fill(buffer, answer_text::kept::size(state, kept::REACH), 0);
     let room = operands::most(operands::size_at(call, 1), BYTES);
-    let taken = lent(state.queue, call, table, pool, state.pool, buffer, room);
-    taken_so(state, taken, room)
+    lists::fill(buffer, room, operands::u8_at(call, 5));
+    room
+}
+
+fn taken(
+    state: &mut [u64; KEPT],
+    table: &mut [u32; WORDS],
+    pool: &mut [u8; POOL],
+    buffer: &mut [u8; BYTES],
+    room: usize,
+) -> Answer {
+    let queue = kept::queue(state);
+    let taken = pool_lent(queue, table, pool, calls::lent(state), buffer, room);
+    let told = taken.answer;
+    let queue = taken.queue;
+    kept::put(state, queue);
+    took(state, told, room)
 }
 
 // As much of the pool as is lent, and as much of the buffer as the call says.
-fn lent(
+fn pool_lent(
     queue: ReassemblyQueue,
-    call: &[u8],
     table: &mut [u32; WORDS],
     pool: &mut [u8],
     n: usize,
-    buffer: &mut [u8],
+    buffer: &mut [u8; BYTES],
     room: usize,
 ) -> Taken {
     let n = operands::most(n, pool.len());
+    buffer_lent(queue, table, &mut pool[0..n], buffer, room)
+}
+
+fn buffer_lent(
+    queue: ReassemblyQueue,
+    table: &mut [u32; WORDS],
+    pool: &mut [u8],
+    buffer: &mut [u8],
+    room: usize,
+) -> Taken {
     let room = operands::most(room, buffer.len());
-    lists::fill(buffer, room, operands::u8_at(call, 5));
-    queue.read(table, &mut pool[0..n], &mut buffer[0..room])
+    queue.read(table, pool, &mut buffer[0..room])
 }
 
-// All bytes of the room stand behind the answer.
-fn taken_so(state: Fragments, taken: Taken, room: usize) -> Fragments {
-    let told = taken.answer;
-    let state = state::with_queue(state, taken.queue, took(told));
-    let answer = answer::showing(state.answer, answer::HAND, 0, room);
-    state::with_hand(state, handed(told, room), answer)
-}
-
-fn took(told: Took) -> Answer {
+fn took(state: &mut [u64; KEPT], told: Took, room: usize) -> Answer {
     match told {
-        Took::Message(m) => message(m),
-        Took::Nothing => answer::plain(answer::NONE),
-        Took::Refused(k) => answer::refused(k),
+        Took::Message(m) => message(state, m, room),
+        Took::Nothing => none(state, room, answer::plain(answer::NONE)),
+        Took::Refused(k) => none(state, room, answer::refused(k)),
     }
 }
 
-fn message(m: Chunks) -> Answer {
-    answer::five(
-        answer::MESSAGE,
-        3,
-        m.ssn as u64,
-        m.ppi as u64,
-        m.size as u64,
-        0,
-        0,
-    )
+fn message(state: &mut [u64; KEPT], m: Chunks, room: usize) -> Answer {
+    kept::put_message(state, m);
+    kept::hold(state, 1, room);
+    let ssn = m.ssn as u64;
+    let ppi = m.ppi as u64;
+    answer::five(answer::MESSAGE, 3, ssn, ppi, m.size as u64, 0, 0)
 }
 
-// A message, or none.
-fn handed(told: Took, room: usize) -> Hand {
-    match told {
-        Took::Message(m) => state::holding(m, room, room),
-        Took::Nothing => state::empty_handed(room),
-        Took::Refused(_) => state::empty_handed(room),
-    }
+fn none(state: &mut [u64; KEPT], room: usize, told: Answer) -> Answer {
+    kept::hold(state, 0, room);
+    told
 }

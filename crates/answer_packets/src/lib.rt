@@ -7,6 +7,7 @@ use answer_text::lists;
 use answer_text::operands;
 use answer_text::operands::BYTES;
 use answer_text::out;
+use answer_text::out::LINES;
 use answer_text::out::SPACE;
 use packet::Unmarshalled;
 use packet_chunks::Step;
@@ -14,21 +15,22 @@ use packet_chunks::Step;
 // Where the chunks of packet_marshal stand, behind how many bytes they are.
 const CHUNKS: usize = 18;
 
-// A call whose answer is put together ahead of its line.
-pub fn told(call: &[u8], lent: &mut [u8; BYTES]) -> Answer {
+pub fn call(call: &[u8], out: &mut [u8; SPACE], at: usize) -> usize {
+    let raw = operands::raw(call);
     match operands::u8_at(call, 0) {
-        59 => sum(operands::raw(call)),
-        60 => header(operands::raw(call)),
-        61 => chunk_at(operands::raw(call), operands::index(call)),
-        _ => marshal(call, lent),
+        62 => bytes(raw, operands::index(call), out, at),
+        63 => walk::walked(raw, out, at),
+        64 => marshal(call, out, at),
+        _ => answer::write(told(call, raw), out, at),
     }
 }
 
-// A call that answers with a part of the call's own bytes, or with a list.
-pub fn written(call: &[u8], out: &mut [u8; SPACE], at: usize) -> usize {
+// A call whose answer is put together ahead of its line.
+fn told(call: &[u8], raw: &[u8]) -> Answer {
     match operands::u8_at(call, 0) {
-        62 => bytes(operands::raw(call), operands::index(call), out, at),
-        _ => walk::walked(operands::raw(call), out, at),
+        59 => sum(raw),
+        60 => header(raw),
+        _ => chunk_at(raw, operands::index(call)),
     }
 }
 
@@ -64,18 +66,27 @@ fn bytes(raw: &[u8], place: usize, out: &mut [u8; SPACE], at: usize) -> usize {
 }
 
 // All bytes of the room that the call says are shown behind the answer.
-fn marshal(call: &[u8], lent: &mut [u8; BYTES]) -> Answer {
+fn marshal(call: &[u8], out: &mut [u8; SPACE], at: usize) -> usize {
     let room = operands::most(operands::size_at(call, 1), BYTES);
-    lists::fill(lent, room, operands::u8_at(call, 5));
-    answer::showing(marshal_to(call, lent, room), answer::SPARE, 0, room)
+    lists::fill_room(out, room, operands::u8_at(call, 5));
+    let told = lent(call, out, LINES + room);
+    let at = answer::write(told, out, at);
+    out::room(out, at, room)
 }
 
-fn marshal_to(call: &[u8], lent: &mut [u8], room: usize) -> Answer {
-    let room = operands::most(room, lent.len());
-    let lent = &mut lent[0..room];
+// The room, up to where it ends.
+fn lent(call: &[u8], out: &mut [u8], end: usize) -> Answer {
+    let end = operands::most(end, out.len());
+    if end < LINES {
+        return answer::refused(0);
+    }
+    marshal_to(call, &mut out[LINES..end])
+}
+
+fn marshal_to(call: &[u8], room: &mut [u8]) -> Answer {
     let source = operands::u16_at(call, 6);
     let destination = operands::u16_at(call, 8);
     let tag = operands::u32_at(call, 10);
     let chunks = operands::part(call, CHUNKS, call.len());
-    answer::wrote(packet_marshal::marshal_to(lent, source, destination, tag, chunks))
+    answer::wrote(packet_marshal::marshal_to(room, source, destination, tag, chunks))
 }

@@ -1,4 +1,4 @@
-// What a call answers, before it is written: a word, the flags of a chunk, numbers, and a part of a lent buffer, which is not written here.
+// What a call answers, before it is written: a word, the flags of a chunk, and numbers.
 use crate::out;
 use crate::out::SPACE;
 use chunk::Marshalled;
@@ -9,17 +9,7 @@ pub struct Answer {
     pub flags: u8,
     pub count: u8,
     pub numbers: [u64; 5],
-    pub shown: u8,
-    pub from: usize,
-    pub to: usize,
 }
-
-// What is shown behind an answer: no buffer, the one of the message in hand, or the one that is lent to every other call.
-pub const NOTHING: u8 = 0;
-
-pub const HAND: u8 = 1;
-
-pub const SPARE: u8 = 2;
 
 // The words, each in its WIDTH bytes of WORDS.
 pub const YES: u8 = 0;
@@ -76,11 +66,13 @@ pub const WALK: u8 = 25;
 
 pub const CAUSES: u8 = 26;
 
+pub const SENT: u8 = 27;
+
 // So many bytes, of which those from a low line on are none of the word.
 const WIDTH: usize = 15;
 
-const WORDS: [u8; 405] =
-    *b"yes____________no_____________done___________none___________refused________number_________tsn____________header_________data___________part___________wrote__________sack___________block__________chunk__________log____________blocks_________held___________whole__________message________piece__________queue__________forward________stream_________nothing in handpacket_________walk___________causes_________";
+const WORDS: [u8; 420] =
+    *b"yes____________no_____________done___________none___________refused________number_________tsn____________header_________data___________part___________wrote__________sack___________block__________chunk__________log____________blocks_________held___________whole__________message________piece__________queue__________forward________stream_________nothing in handpacket_________walk___________causes_________sent___________";
 
 // The letters of the flags, a space in front, each set of them in its five bytes.
 const LETTERS: [u8; 80] =
@@ -95,19 +87,7 @@ pub fn five(word: u8, count: u8, a: u64, b: u64, c: u64, d: u64, e: u64) -> Answ
         flags: UNSHOWN,
         count,
         numbers: [a, b, c, d, e],
-        shown: NOTHING,
-        from: 0,
-        to: 0,
     }
-}
-
-// With this part of a buffer behind it.
-pub fn showing(told: Answer, shown: u8, from: usize, to: usize) -> Answer {
-    let mut told = told;
-    told.shown = shown;
-    told.from = from;
-    told.to = to;
-    told
 }
 
 pub fn plain(word: u8) -> Answer {
@@ -157,9 +137,15 @@ pub fn write_fields(told: Answer, out: &mut [u8; SPACE], at: usize) -> usize {
     out::longs(out, at, &numbers, told.count)
 }
 
+// Ahead of a record.
+pub fn bar(out: &mut [u8; SPACE], at: usize) -> usize {
+    let at = out::byte(out, at, b' ');
+    out::byte(out, at, b'|')
+}
+
 fn word(w: u8, out: &mut [u8; SPACE], at: usize) -> usize {
     let words = WORDS;
-    let from = WIDTH * (w % 27) as usize;
+    let from = WIDTH * (w % 28) as usize;
     out::text(out, at, out::trimmed(&words, from, from + WIDTH))
 }
 

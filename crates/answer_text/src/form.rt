@@ -7,15 +7,15 @@ use crate::operands::NUMBERS;
 pub const MALFORMED: usize = usize::MAX;
 
 // The calls, and the most operands of one, and one place more.
-pub const CALLS: u8 = 69;
+pub const CALLS: u8 = 83;
 
 pub const PLACES: usize = 9;
 
 // A letter for each operand of each call, in the order of their numbers, from 0 on. 1, 2, 4 and 8 a number of so many bytes, f flags (so f4224 are fields),
-// r a raw, d data, s shorts, w words, b a room of bytes, n one of numbers, c one of causes; q, t and m what is forged of a TSN queue, of a reassembly queue, of a message in
-// hand. ? is the number of no call.
-const FORMS: [u8; 621] =
-    *b"?        44       22       44       22       r        r        r        b1f4224d r        r        r        r8       r8       b144ssw  ?                 44       f422424  4        4        4                 4nn2                                         2                 q28               24       f4224d            b1       2        4                          t28               24       244      ?        ?        ?        ?                          b1       8        m8       r        r        r8       b14ss    44       r44      r        r        r8       r8       r        b1224r   rcccc2   rcccc2   44       22       ";
+// r a raw, d data, s shorts, w words, b a room of bytes, n one of numbers, c one of causes; q, t, m and h what is forged of a TSN queue, of a reassembly queue, of a message in
+// hand, of an in-flight queue. ? is the number of no call.
+const FORMS: [u8; 747] =
+    *b"?        44       22       44       22       r        r        r        b1f4224d r        r        r        r8       r8       b144ssw  ?                 44       f422424  4        4        4                 4nn2                                         2                 q28               24       f4224d            b1       2        4                          t28               24       244      ?        ?        ?        ?                          b1       8        m8       r        r        r8       b14ss    44       r44      r        r        r8       r8       r        b1224r   rcccc2   rcccc2   44       22                f422428  4                 8        4        4        4                                            h28               ";
 
 // The letter of an operand; a space behind the last one.
 pub fn letter(number: u8, operand: usize) -> u8 {
@@ -92,7 +92,7 @@ fn forged(field: u8, letter: u8) -> usize {
     match letter {
         b'q' => within(field as usize, 4, 1),
         b't' => within(field as usize, 9, 1),
-        b'm' => within(field as usize, 3, 1),
+        b'm' | b'h' => within(field as usize, 3, 1),
         _ => MALFORMED,
     }
 }

@@ -1,5 +1,28 @@
 // Lent lists: what stands in the first n places of them before a call.
 use crate::operands;
+use crate::out::LINES;
+use crate::out::SPACE;
+
+// The first n bytes of the room behind the lines: each this byte.
+pub fn fill_room(out: &mut [u8], n: usize, b: u8) {
+    if out.len() < LINES {
+        return;
+    }
+    fill(&mut out[LINES..], n, b);
+}
+
+// The same, patterned data.
+pub fn pattern_room(out: &mut [u8], n: usize, s: u8) {
+    if out.len() < LINES {
+        return;
+    }
+    pattern(&mut out[LINES..], n, s);
+}
+
+// They themselves; none where there are fewer.
+pub fn room(out: &[u8; SPACE], n: usize) -> &[u8] {
+    operands::part(out, LINES, std::num::wrapping_add_usize(LINES, n))
+}
 
 // Patterned data: byte i is s + i + i / 256.
 pub fn pattern(user: &mut [u8], n: usize, s: u8) {

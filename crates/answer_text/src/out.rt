@@ -1,14 +1,18 @@
 // The lines that are answered: bytes put into a lent buffer, none where it is full. Every function takes the place of the next byte, and answers
 // the one behind what it put.
 use crate::operands;
+use crate::operands::BYTES;
 
-pub const SPACE: usize = 262144;
+// Lines stand in front of this place; behind it, a room that is lent to calls.
+pub const LINES: usize = 262144;
+
+pub const SPACE: usize = 327744;
 
 // No line is longer: the longest holds four lists of 10,000 numbers of 16 bits.
 pub const LINE: usize = 250000;
 
 pub fn byte(out: &mut [u8; SPACE], at: usize, b: u8) -> usize {
-    if at < SPACE {
+    if at < LINES {
         out[at] = b;
         return at + 1;
     }
@@ -80,6 +84,26 @@ fn pairs(out: &mut [u8; SPACE], at: usize, s: &[u8]) -> usize {
 fn pair(out: &mut [u8; SPACE], at: usize, b: u8) -> usize {
     let at = byte(out, at, digit(b / 16));
     byte(out, at, digit(b))
+}
+
+// A space, and the first n bytes of the room in hexadecimal digits.
+pub fn room(out: &mut [u8; SPACE], at: usize, n: usize) -> usize {
+    let at = byte(out, at, b' ');
+    if n == 0 {
+        return byte(out, at, b'-');
+    }
+    room_pairs(out, at, operands::most(n, BYTES))
+}
+
+fn room_pairs(out: &mut [u8; SPACE], at: usize, n: usize) -> usize {
+    let mut at = at;
+    let mut i: usize = 0;
+    while i < n {
+        let b = operands::u8_at(out, std::num::wrapping_add_usize(LINES, i));
+        at = pair(out, at, b);
+        i += 1;
+    }
+    at
 }
 
 // A space and a number, for each of the first ones.

@@ -1,157 +1,58 @@
 // The calls of the TSN queue that answer with no list.
+use crate::asked;
 use crate::forge;
+use crate::kept;
 use answer_text::answer;
 use answer_text::answer::Answer;
-use answer_text::digest;
+use answer_text::kept::KEPT;
 use answer_text::operands;
-use payload_queue::Done;
-use payload_queue::Dropped;
-use payload_queue::Flag;
-use payload_queue::LastTsn;
-use payload_queue::Number;
 use payload_queue::PayloadQueue;
-use payload_queue::Queued;
-use payload_queue::Taken;
 use payload_queue::WORDS;
 
-// What a call answers, and the queue after it.
-pub struct Told {
-    pub answer: Answer,
-    pub queue: PayloadQueue,
-}
-
-pub fn call(queue: PayloadQueue, call: &[u8], table: &mut [u32; WORDS]) -> Told {
+pub fn told(state: &mut [u64; KEPT], call: &[u8], table: &mut [u32; WORDS]) -> Answer {
     match operands::u8_at(call, 0) {
-        16 | 30 => set(queue, call, table),
-        18 => push(queue, call, table),
-        19 => pop(queue, operands::u32_at(call, 1), table),
-        20 => dropped(queue.pop_up_to(table, operands::u32_at(call, 1))),
-        _ => ask(queue, call, table),
+        16 | 30 => set(state, call, table),
+        18 => push(state, call, table),
+        19 => pop(state, call, table),
+        20 => pop_up_to(state, call, table),
+        _ => asked::asked(kept::queue(state), call, table),
     }
 }
 
-fn ask(queue: PayloadQueue, call: &[u8], table: &[u32; WORDS]) -> Told {
-    let answer = asked(queue, call, table);
-    Told { answer, queue }
-}
-
-fn set(queue: PayloadQueue, call: &[u8], table: &mut [u32; WORDS]) -> Told {
-    let answer = answer::plain(answer::DONE);
+fn set(state: &mut [u64; KEPT], call: &[u8], table: &mut [u32; WORDS]) -> Answer {
     if operands::u8_at(call, 0) == 16 {
-        let queue = PayloadQueue::new();
-        return Told { answer, queue };
+        kept::put(state, PayloadQueue::new());
+    } else {
+        forge::tsns(state, call, table);
     }
-    let queue = forge::tsns(queue, call, table);
-    Told { answer, queue }
+    answer::plain(answer::DONE)
 }
 
-fn push(queue: PayloadQueue, call: &[u8], table: &mut [u32; WORDS]) -> Told {
+fn push(state: &mut [u64; KEPT], call: &[u8], table: &mut [u32; WORDS]) -> Answer {
     let chunk = operands::fields(operands::part(call, 1, 14));
     let size = operands::u16_at(call, 14);
+    let queue = kept::queue(state);
     let pushed = queue.push(table, chunk, size, operands::u32_at(call, 16));
     let told = pushed.answer;
     let queue = pushed.queue;
-    let answer = flag(told);
-    Told { answer, queue }
+    kept::put(state, queue);
+    asked::flag(told)
 }
 
-fn pop(queue: PayloadQueue, tsn: u32, table: &mut [u32; WORDS]) -> Told {
-    let popped = queue.pop(table, tsn);
+fn pop(state: &mut [u64; KEPT], call: &[u8], table: &mut [u32; WORDS]) -> Answer {
+    let queue = kept::queue(state);
+    let popped = queue.pop(table, operands::u32_at(call, 1));
     let told = popped.answer;
     let queue = popped.queue;
-    let answer = taken(told);
-    Told { answer, queue }
+    kept::put(state, queue);
+    asked::taken(told)
 }
 
-pub fn dropped(dropped: Dropped) -> Told {
+fn pop_up_to(state: &mut [u64; KEPT], call: &[u8], table: &mut [u32; WORDS]) -> Answer {
+    let queue = kept::queue(state);
+    let dropped = queue.pop_up_to(table, operands::u32_at(call, 1));
     let told = dropped.answer;
     let queue = dropped.queue;
-    let answer = done(told);
-    Told { answer, queue }
-}
-
-fn done(told: Done) -> Answer {
-    match told {
-        Done::All => answer::plain(answer::DONE),
-        Done::Refused(k) => answer::refused(k),
-    }
-}
-
-fn flag(told: Flag) -> Answer {
-    match told {
-        Flag::Is(yes) => answer::is(yes),
-        Flag::Refused(k) => answer::refused(k),
-    }
-}
-
-// A number, behind this word.
-pub fn number(word: u8, told: Number) -> Answer {
-    match told {
-        Number::Is(n) => answer::one(word, n as u64),
-        Number::Refused(k) => answer::refused(k),
-    }
-}
-
-fn last(told: LastTsn) -> Answer {
-    match told {
-        LastTsn::Tsn(tsn) => answer::one(answer::TSN, tsn as u64),
-        LastTsn::Nothing => answer::plain(answer::NONE),
-        LastTsn::Refused(k) => answer::refused(k),
-    }
-}
-
-fn taken(told: Taken) -> Answer {
-    match told {
-        Taken::Chunk(q) => queued(q),
-        Taken::Nothing => answer::plain(answer::NONE),
-        Taken::Refused(k) => answer::refused(k),
-    }
-}
-
-fn queued(q: Queued) -> Answer {
-    let chunk = q.chunk;
-    answer::fields(answer::CHUNK, 5, chunk, q.size as u64)
-}
-
-// The calls that change nothing.
-fn asked(queue: PayloadQueue, call: &[u8], table: &[u32; WORDS]) -> Answer {
-    match operands::u8_at(call, 0) {
-        17 => can_push(queue, call, table),
-        21 => taken(queue.get(table, operands::u32_at(call, 1))),
-        28 => flag(queue.contains_stream(table, operands::u16_at(call, 1))),
-        _ => without(queue, operands::u8_at(call, 0), table),
-    }
-}
-
-// Those without an operand.
-fn without(queue: PayloadQueue, call: u8, table: &[u32; WORDS]) -> Answer {
-    match call {
-        24 => last(queue.get_last_tsn_received(table)),
-        25 => number(answer::NUMBER, queue.get_num_bytes(table)),
-        26 => number(answer::NUMBER, queue.len(table)),
-        27 => flag(queue.is_empty(table)),
-        _ => whole(queue, table),
-    }
-}
-
-fn can_push(queue: PayloadQueue, call: &[u8], table: &[u32; WORDS]) -> Answer {
-    let tsn = operands::u32_at(call, 1);
-    flag(queue.can_push(table, tsn, operands::u32_at(call, 5)))
-}
-
-fn whole(queue: PayloadQueue, table: &[u32; WORDS]) -> Answer {
-    let log = queue.dup_tsn;
-    let bytes = queue.n_bytes as u64;
-    let dups = queue.dups as u64;
-    let logged = digest::words(&log);
-    let words = digest::words(table);
-    answer::five(
-        answer::WHOLE,
-        5,
-        queue.count as u64,
-        bytes,
-        dups,
-        logged,
-        words,
-    )
+    kept::put(state, queue);
+    asked::done(told)
 }

@@ -1,26 +1,35 @@
 // A call that sets one field of the TSN queue, or one word of its table.
+use crate::kept;
+use answer_text::kept::KEPT;
 use answer_text::operands;
-use payload_queue::PayloadQueue;
+use payload_queue::LOG;
+use payload_queue::WORDS;
 
-pub fn tsns(
-    queue: PayloadQueue,
-    call: &[u8],
-    table: &mut [u32; payload_queue::WORDS],
-) -> PayloadQueue {
-    let value = operands::u64_at(call, 4);
+pub fn tsns(state: &mut [u64; KEPT], call: &[u8], table: &mut [u32; WORDS]) {
+    let field = operands::u8_at(call, 1);
     let index = operands::count_at(call, 2);
-    let mut queue = queue;
-    match operands::u8_at(call, 1) {
-        0 => queue.count = value as usize,
-        1 => queue.n_bytes = value as usize,
-        2 => queue.dups = value as usize,
-        3 => queue.dup_tsn[index % payload_queue::LOG] = word(value),
-        _ => table[index % payload_queue::WORDS] = word(value),
+    let value = operands::u64_at(call, 4);
+    if field == 4 {
+        table[index % WORDS] = answer_text::kept::word(value);
+        return;
     }
-    queue
+    answer_text::kept::set(state, place(field, index), cut(field, value));
 }
 
-// The value, cut to a width.
-fn word(value: u64) -> u32 {
-    (value % 4294967296) as u32
+fn place(field: u8, index: usize) -> usize {
+    match field {
+        0 => kept::COUNT,
+        1 => kept::BYTES,
+        2 => kept::DUPS,
+        _ => kept::DUPLICATES + index % LOG,
+    }
+}
+
+// The value, cut to the field's width.
+fn cut(field: u8, value: u64) -> u64 {
+    if field == 3 {
+        value % 4294967296
+    } else {
+        value
+    }
 }

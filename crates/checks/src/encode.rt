@@ -67,7 +67,7 @@ fn undashed(word: &[u8]) -> &[u8] {
 // What the first byte of the number of a letter counts.
 fn top(letter: u8) -> u64 {
     match letter {
-        b'1' | b'q' | b't' | b'm' => 1,
+        b'1' | b'q' | b't' | b'm' | b'h' => 1,
         b'2' | b'n' | b'c' => TOP16,
         b'4' | b'b' => TOP32,
         b'8' => 72057594037927936,

@@ -1,21 +1,42 @@
-// Are the queues, their tables and the pool as they were?
-use answer_fragments::state::POOL;
-use answers::state::State;
-use payload_queue::PayloadQueue;
-use reassembly_queue::ReassemblyQueue;
+// Are the queues, their tables and the pool as they were? What was kept is compared up to what a call may change that only looks.
+use answer_fragments::kept::POOL;
+use answer_text::kept::KEPT;
+use answer_text::kept::LOOSE;
 
-pub fn lists(
-    tsns: &[u32; payload_queue::WORDS],
-    tsns_before: &[u32; payload_queue::WORDS],
-    table: &[u32; reassembly_queue::WORDS],
-    table_before: &[u32; reassembly_queue::WORDS],
-    pool: &[u8; POOL],
-    pool_before: &[u8; POOL],
-) -> bool {
-    if !words(tsns, tsns_before) {
-        return false;
+pub fn state(a: &[u64; KEPT], b: &[u64; KEPT]) -> bool {
+    longs(a, b, LOOSE)
+}
+
+pub fn messages(a: &[u64; inflight_queue::TSNS], b: &[u64; inflight_queue::TSNS]) -> bool {
+    longs(a, b, inflight_queue::TSNS)
+}
+
+pub fn tsns(a: &[u32; payload_queue::WORDS], b: &[u32; payload_queue::WORDS]) -> bool {
+    words(a, b)
+}
+
+pub fn table(a: &[u32; reassembly_queue::WORDS], b: &[u32; reassembly_queue::WORDS]) -> bool {
+    words(a, b)
+}
+
+pub fn pool(a: &[u8; POOL], b: &[u8; POOL]) -> bool {
+    check::same(a, b)
+}
+
+// The first n.
+fn longs(a: &[u64], b: &[u64], n: usize) -> bool {
+    let mut i: usize = 0;
+    while i < n {
+        if long(a, i) != long(b, i) {
+            return false;
+        }
+        i += 1;
     }
-    words(table, table_before) & check::same(pool, pool_before)
+    true
+}
+
+fn long(a: &[u64], i: usize) -> u64 {
+    if i < a.len() { a[i] } else { 0 }
 }
 
 fn words(a: &[u32], b: &[u32]) -> bool {
@@ -30,28 +51,4 @@ fn words(a: &[u32], b: &[u32]) -> bool {
         i += 1;
     }
     true
-}
-
-pub fn queues(a: State, b: State) -> bool {
-    let x = a.fragments;
-    let y = b.fragments;
-    tsns(a.tsns, b.tsns) & fragments(x.queue, y.queue) & (x.pool == y.pool)
-}
-
-fn tsns(a: PayloadQueue, b: PayloadQueue) -> bool {
-    let log = a.dup_tsn;
-    let other = b.dup_tsn;
-    let counts = (a.count == b.count) & (a.n_bytes == b.n_bytes) & (a.dups == b.dups);
-    counts & words(&log, &other)
-}
-
-fn fragments(a: ReassemblyQueue, b: ReassemblyQueue) -> bool {
-    let counts = (a.finished == b.finished)
-        & (a.unordered == b.unordered)
-        & (a.ordered == b.ordered)
-        & (a.n_bytes == b.n_bytes);
-    counts
-        & (a.si == b.si)
-        & (a.next_ssn == b.next_ssn)
-        & (a.max_message_size == b.max_message_size)
 }

@@ -1,5 +1,4 @@
 // A line with a call: the call is done as often as it says, and each answer held to the one that it expects.
-use crate::Run;
 use crate::encode;
 use crate::encode::CALL;
 use crate::expand;
@@ -7,14 +6,13 @@ use crate::expand::LINE;
 use crate::forms;
 use crate::kept;
 use crate::tally;
-use crate::tally::Tally;
+use crate::tally::TALLY;
 use crate::text;
-use answer_fragments::state::POOL;
+use answer_fragments::kept::POOL;
+use answer_text::kept::KEPT;
 use answer_text::operands;
 use answer_text::operands::BYTES;
 use answer_text::out::SPACE;
-use answers::state;
-use answers::state::State;
 
 // Whether the answer must be another one, how often the call is done, and from where to where it is said; the answer stands behind that and ` = `.
 struct Said {
@@ -26,36 +24,74 @@ struct Said {
 
 // A line that is a comment, or a section's name, or empty, is done no time. A malformed line is done with an empty call, which no queue is lent to.
 pub fn done(
-    run: Run,
-    script: &[u8],
-    from: usize,
-    to: usize,
-    out: &mut [u8; SPACE],
+    said: &[u8],
+    tally: &mut [u64; TALLY],
+    state: &mut [u64; KEPT],
     tsns: &mut [u32; payload_queue::WORDS],
+    flight: &mut [u32; inflight_queue::WORDS],
+    messages: &mut [u64; inflight_queue::TSNS],
     table: &mut [u32; reassembly_queue::WORDS],
     pool: &mut [u8; POOL],
     buffer: &mut [u8; BYTES],
-    spare: &mut [u8; BYTES],
-) -> Run {
-    let mut run = begun(run, script, from, to);
-    let said = operands::part(script, from, to);
+    out: &mut [u8; SPACE],
+) {
     let mut list = [0u8; LINE];
     let n = expand::expanded(&mut list, said);
     let line = operands::part(&list, 0, n);
     let parts = parts(line, operands::u8_at(said, 0));
-    let mut i: u64 = 0;
-    while i < parts.times {
-        run = once(run, line, parts, i, out, tsns, table, pool, buffer, spare);
-        i += 1;
-    }
-    run
+    often(
+        line,
+        parts,
+        tally,
+        state,
+        tsns,
+        flight,
+        messages,
+        table,
+        pool,
+        buffer,
+        out,
+    );
 }
 
-fn begun(run: Run, script: &[u8], from: usize, to: usize) -> Run {
-    let t = run.tally;
-    let mut run = run;
-    run.tally = tally::next_line(t, script, from, to);
-    run
+// As often as it is said.
+fn often(
+    line: &[u8],
+    parts: Said,
+    tally: &mut [u64; TALLY],
+    state: &mut [u64; KEPT],
+    tsns: &mut [u32; payload_queue::WORDS],
+    flight: &mut [u32; inflight_queue::WORDS],
+    messages: &mut [u64; inflight_queue::TSNS],
+    table: &mut [u32; reassembly_queue::WORDS],
+    pool: &mut [u8; POOL],
+    buffer: &mut [u8; BYTES],
+    out: &mut [u8; SPACE],
+) {
+    let mut i: u64 = 0;
+    loop {
+        if parts.times <= i {
+            return;
+        }
+        once(
+            line,
+            parts,
+            i,
+            tally,
+            state,
+            tsns,
+            flight,
+            messages,
+            table,
+            pool,
+            buffer,
+            out,
+        );
+        if u64::MAX <= i {
+            return;
+        }
+        i += 1;
+    }
 }
 
 fn parts(line: &[u8], first: u8) -> Said {
@@ -102,28 +138,126 @@ fn equals(line: &[u8], from: usize) -> usize {
     }
 }
 
-// The call, and whether the lists that it was lent are as before; its line stands in front of the buffer.
+// The call, and its answer held to the one that is wanted.
 fn once(
-    run: Run,
     line: &[u8],
     parts: Said,
     step: u64,
-    out: &mut [u8; SPACE],
+    tally: &mut [u64; TALLY],
+    state: &mut [u64; KEPT],
     tsns: &mut [u32; payload_queue::WORDS],
+    flight: &mut [u32; inflight_queue::WORDS],
+    messages: &mut [u64; inflight_queue::TSNS],
     table: &mut [u32; reassembly_queue::WORDS],
     pool: &mut [u8; POOL],
     buffer: &mut [u8; BYTES],
-    spare: &mut [u8; BYTES],
-) -> Run {
+    out: &mut [u8; SPACE],
+) {
     let mut bytes = [0u8; CALL];
     let n = encode::encoded(&mut bytes, operands::part(line, parts.from, parts.to), step);
     let call = operands::part(&bytes, 0, n);
+    let kept = answered(
+        call,
+        state,
+        tsns,
+        flight,
+        messages,
+        table,
+        pool,
+        buffer,
+        out,
+    );
+    judged(tally, call, given(out), kept, line, parts);
+}
+
+// The answer: the line in front of the buffer.
+fn given(out: &[u8; SPACE]) -> &[u8] {
+    operands::part(out, 0, text::find(out, 0, b'\n'))
+}
+
+// Whether the words and lists that the call was lent are as before: the words and the TSN queue's table ..
+fn answered(
+    call: &[u8],
+    state: &mut [u64; KEPT],
+    tsns: &mut [u32; payload_queue::WORDS],
+    flight: &mut [u32; inflight_queue::WORDS],
+    messages: &mut [u64; inflight_queue::TSNS],
+    table: &mut [u32; reassembly_queue::WORDS],
+    pool: &mut [u8; POOL],
+    buffer: &mut [u8; BYTES],
+    out: &mut [u8; SPACE],
+) -> bool {
+    let longs = *state;
     let words = *tsns;
+    let kept = with_flight(
+        call,
+        state,
+        tsns,
+        flight,
+        messages,
+        table,
+        pool,
+        buffer,
+        out,
+    );
+    kept & kept::state(state, &longs) & kept::tsns(tsns, &words)
+}
+
+// .. what is in flight ..
+fn with_flight(
+    call: &[u8],
+    state: &mut [u64; KEPT],
+    tsns: &mut [u32; payload_queue::WORDS],
+    flight: &mut [u32; inflight_queue::WORDS],
+    messages: &mut [u64; inflight_queue::TSNS],
+    table: &mut [u32; reassembly_queue::WORDS],
+    pool: &mut [u8; POOL],
+    buffer: &mut [u8; BYTES],
+    out: &mut [u8; SPACE],
+) -> bool {
+    let sent = *flight;
+    let numbers = *messages;
+    let kept = with_pool(
+        call,
+        state,
+        tsns,
+        flight,
+        messages,
+        table,
+        pool,
+        buffer,
+        out,
+    );
+    kept & kept::tsns(flight, &sent) & kept::messages(messages, &numbers)
+}
+
+// .. and the reassembly queue's table and pool.
+fn with_pool(
+    call: &[u8],
+    state: &mut [u64; KEPT],
+    tsns: &mut [u32; payload_queue::WORDS],
+    flight: &mut [u32; inflight_queue::WORDS],
+    messages: &mut [u64; inflight_queue::TSNS],
+    table: &mut [u32; reassembly_queue::WORDS],
+    pool: &mut [u8; POOL],
+    buffer: &mut [u8; BYTES],
+    out: &mut [u8; SPACE],
+) -> bool {
     let rows = *table;
     let held = *pool;
-    let state = answers::answered(run.state, call, out, tsns, table, pool, buffer, spare);
-    let kept = kept::lists(tsns, &words, table, &rows, pool, &held);
-    judged(run, state, kept, call, line, parts, out)
+    answers::answered(
+        state,
+        call,
+        tsns,
+        flight,
+        messages,
+        table,
+        pool,
+        buffer,
+        out,
+        0,
+    );
+    kept::table(table, &rows) & kept::pool(pool, &held)
 }
 
 // Must the queues be as before?
@@ -132,21 +266,16 @@ fn is_still(call: &[u8], given: &[u8]) -> bool {
 }
 
 fn judged(
-    run: Run,
-    state: State,
-    kept: bool,
+    tally: &mut [u64; TALLY],
     call: &[u8],
+    given: &[u8],
+    kept: bool,
     line: &[u8],
     parts: Said,
-    out: &[u8; SPACE],
-) -> Run {
-    let given = operands::first(out, std::num::wrapping_sub_usize(state.at, 1));
+) {
     let want = operands::part(line, std::num::wrapping_add_usize(parts.to, 3), line.len());
-    let kept = kept & kept::queues(run.state, state);
     let right = fits(given, want) != parts.other;
-    let tally = verdict(run.tally, call, given, kept, right);
-    let state = state::written(state, 0);
-    Run { state, tally }
+    verdict(tally, call, given, kept, right);
 }
 
 // Where the answer that is wanted ends in ` ~`, only what stands ahead of that is compared.
@@ -158,15 +287,18 @@ fn fits(given: &[u8], want: &[u8]) -> bool {
     check::same(given, want)
 }
 
-fn verdict(t: Tally, call: &[u8], given: &[u8], kept: bool, right: bool) -> Tally {
+fn verdict(t: &mut [u64; TALLY], call: &[u8], given: &[u8], kept: bool, right: bool) {
     if call.len() == 0 {
-        return tally::failed(t, b": malformed", call);
+        tally::failed(t, b": malformed", call);
+        return;
     }
     if is_still(call, given) & !kept {
-        return tally::failed(t, b": changed: ", given);
+        tally::failed(t, b": changed: ", given);
+        return;
     }
     if !right {
-        return tally::failed(t, b": ", given);
+        tally::failed(t, b": ", given);
+        return;
     }
-    tally::passed(t)
+    tally::passed(t);
 }

@@ -2,27 +2,21 @@
 use answer_text::operands;
 
 // The line that is read, the checks so far and those that failed, both ahead of the section too, and where the section's name stands in the script.
-pub struct Tally {
-    pub line: u64,
-    pub checks: u64,
-    pub failed: u64,
-    pub checks_ahead: u64,
-    pub failed_ahead: u64,
-    pub from: usize,
-    pub to: usize,
-}
+pub const TALLY: usize = 7;
 
-pub fn none() -> Tally {
-    Tally {
-        line: 0,
-        checks: 0,
-        failed: 0,
-        checks_ahead: 0,
-        failed_ahead: 0,
-        from: 0,
-        to: 0,
-    }
-}
+const LINE: usize = 0;
+
+const CHECKS: usize = 1;
+
+const FAILED: usize = 2;
+
+const CHECKS_AHEAD: usize = 3;
+
+const FAILED_AHEAD: usize = 4;
+
+const FROM: usize = 5;
+
+const TO: usize = 6;
 
 // One more; it wraps and never stops.
 fn more(n: u64) -> u64 {
@@ -30,70 +24,81 @@ fn more(n: u64) -> u64 {
 }
 
 // With the next line, which may begin a section.
-pub fn next_line(t: Tally, script: &[u8], from: usize, to: usize) -> Tally {
-    let mut t = t;
-    t.line = more(t.line);
+pub fn next_line(t: &mut [u64; TALLY], script: &[u8], from: usize, to: usize) {
+    let line = t[LINE];
+    t[LINE] = more(line);
     if operands::u8_at(script, from) == b'=' {
-        return section(t, script, from, to);
+        section(t, script, from, to);
     }
-    t
 }
 
-pub fn passed(t: Tally) -> Tally {
-    let mut t = t;
-    t.checks = more(t.checks);
-    t
+pub fn passed(t: &mut [u64; TALLY]) {
+    let checks = t[CHECKS];
+    t[CHECKS] = more(checks);
 }
 
 // A check that failed, and what was found.
-pub fn failed(t: Tally, why: &[u8], found: &[u8]) -> Tally {
-    print::text(b"line ");
-    print::number(t.line);
-    print::text(why);
+pub fn failed(t: &mut [u64; TALLY], why: &[u8], found: &[u8]) {
+    passed(t);
+    let failed = t[FAILED];
+    t[FAILED] = more(failed);
+    let line = t[LINE];
+    named(line, why);
     print::text(operands::first(found, 200));
     print::text(b"\n");
-    let mut t = passed(t);
-    t.failed = more(t.failed);
-    t
+}
+
+fn named(line: u64, why: &[u8]) {
+    print::text(b"line ");
+    print::number(line);
+    print::text(why);
 }
 
 // The end of a section, and the beginning of one whose name stands, behind `== `, in this part of the script.
-pub fn section(t: Tally, script: &[u8], from: usize, to: usize) -> Tally {
-    if t.from < t.to {
-        print::text(operands::part(script, t.from, t.to));
-        print::text(b": ");
-        counts(
-            std::num::wrapping_sub_u64(t.checks, t.checks_ahead),
-            std::num::wrapping_sub_u64(t.failed, t.failed_ahead),
-        );
+pub fn section(t: &mut [u64; TALLY], script: &[u8], from: usize, to: usize) {
+    let name_from = t[FROM];
+    let name_to = t[TO];
+    let name = operands::part(script, name_from as usize, name_to as usize);
+    ended(t, name);
+    let name_from = std::num::wrapping_add_usize(from, 3);
+    begun(t, name_from as u64, to as u64);
+}
+
+fn begun(t: &mut [u64; TALLY], from: u64, to: u64) {
+    let checks = t[CHECKS];
+    let failed = t[FAILED];
+    t[FROM] = from;
+    t[TO] = to;
+    t[CHECKS_AHEAD] = checks;
+    t[FAILED_AHEAD] = failed;
+}
+
+fn ended(t: &[u64; TALLY], name: &[u8]) {
+    if name.len() == 0 {
+        return;
     }
-    let mut t = t;
-    t.from = std::num::wrapping_add_usize(from, 3);
-    t.to = to;
-    t.checks_ahead = t.checks;
-    t.failed_ahead = t.failed;
-    t
+    print::text(name);
+    print::text(b": ");
+    let checks = std::num::wrapping_sub_u64(t[CHECKS], t[CHECKS_AHEAD]);
+    counts(
+        checks,
+        std::num::wrapping_sub_u64(t[FAILED], t[FAILED_AHEAD]),
+    );
 }
 
 // How many checks, and how many failed, where any did.
 fn counts(checks: u64, failed: u64) {
-    print::number(checks);
-    print::text(b" checks");
+    print::with_number(b"% checks", checks);
     if 0 < failed {
-        print::text(b", ");
-        print::number(failed);
-        print::text(b" failed");
+        print::with_number(b", % failed", failed);
     }
     print::text(b"\n");
 }
 
 // The last line.
-pub fn report(t: Tally, whole: bool) {
+pub fn report(t: &[u64; TALLY], whole: bool) {
     if !whole {
         print::text(b"the script is too long\n");
     }
-    print::number(t.checks);
-    print::text(b" checks, ");
-    print::number(t.failed);
-    print::text(b" failed\n");
+    print::filled(b"% checks, % failed\n", [t[CHECKS], t[FAILED], 0, 0]);
 }

@@ -2,6 +2,7 @@
 // it and taken from it.
 use answer_text::operands;
 use answer_text::out;
+use answer_text::out::LINES;
 use answer_text::out::SPACE;
 use input::View;
 use input::WINDOW;
@@ -58,7 +59,7 @@ fn records(
 // The first bytes of the line, behind those that wait to be written; these are written where little room is left.
 fn put(out: &mut [u8; SPACE], at: usize, line: &[u8; LINE], n: usize) -> usize {
     let mut at = at;
-    if SPACE - LINE < at {
+    if LINES - LINE < at {
         flush(out, at);
         at = 0;
     }

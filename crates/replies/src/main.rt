@@ -1,33 +1,58 @@
 // Reads calls from standard input, does each on the proved libraries, and writes one line for it: docs/CALLS.md.
-use answer_fragments::state::POOL;
+use answer_fragments::kept::POOL;
 use answer_text::form;
+use answer_text::kept::KEPT;
 use answer_text::operands;
 use answer_text::operands::BYTES;
 use answer_text::out;
 use answer_text::out::LINE;
+use answer_text::out::LINES;
 use answer_text::out::SPACE;
-use answers::state;
-use answers::state::State;
 use input::View;
 use input::WINDOW;
 use libc::STDOUT_FILENO;
 
 fn main() {
-    let mut window = [0u8; WINDOW];
-    let mut out = [0u8; SPACE];
+    let mut state = [0u64; KEPT];
     let mut tsns = [0u32; payload_queue::WORDS];
+    let mut flight = [0u32; inflight_queue::WORDS];
+    let mut messages = [0u64; inflight_queue::TSNS];
     let mut table = [0u32; reassembly_queue::WORDS];
     let mut pool = [0u8; POOL];
     let mut buffer = [0u8; BYTES];
-    let mut spare = [0u8; BYTES];
-    calls(
-        &mut window,
-        &mut out,
+    answers::fresh(&mut state);
+    stream(
+        &mut state,
         &mut tsns,
+        &mut flight,
+        &mut messages,
         &mut table,
         &mut pool,
         &mut buffer,
-        &mut spare,
+    );
+}
+
+fn stream(
+    state: &mut [u64; KEPT],
+    tsns: &mut [u32; payload_queue::WORDS],
+    flight: &mut [u32; inflight_queue::WORDS],
+    messages: &mut [u64; inflight_queue::TSNS],
+    table: &mut [u32; reassembly_queue::WORDS],
+    pool: &mut [u8; POOL],
+    buffer: &mut [u8; BYTES],
+) {
+    let mut window = [0u8; WINDOW];
+    let mut out = [0u8; SPACE];
+    calls(
+        &mut window,
+        &mut out,
+        state,
+        tsns,
+        flight,
+        messages,
+        table,
+        pool,
+        buffer,
     );
 }
 
@@ -35,25 +60,41 @@ fn main() {
 fn calls(
     window: &mut [u8; WINDOW],
     out: &mut [u8; SPACE],
+    state: &mut [u64; KEPT],
     tsns: &mut [u32; payload_queue::WORDS],
+    flight: &mut [u32; inflight_queue::WORDS],
+    messages: &mut [u64; inflight_queue::TSNS],
     table: &mut [u32; reassembly_queue::WORDS],
     pool: &mut [u8; POOL],
     buffer: &mut [u8; BYTES],
-    spare: &mut [u8; BYTES],
 ) {
-    let mut state = state::fresh();
+    let mut at: usize = 0;
     let mut view = input::unread();
-    let mut number: u64 = 0;
-    while number < u64::MAX {
-        number += 1;
+    let mut number: u64 = 1;
+    loop {
         view = next(window, view);
         if view.size == 0 {
-            end(window, view, number, out, state.at);
+            end(window, view, number, out, at);
             return;
         }
         let call = input::call(window, view);
-        state = answers::answered(state, call, out, tsns, table, pool, buffer, spare);
-        state = roomy(state, out);
+        at = answers::answered(
+            state,
+            call,
+            tsns,
+            flight,
+            messages,
+            table,
+            pool,
+            buffer,
+            out,
+            at,
+        );
+        at = roomy(out, at);
+        if u64::MAX <= number {
+            return;
+        }
+        number += 1;
     }
 }
 
@@ -76,19 +117,23 @@ fn end(window: &[u8; WINDOW], view: View, number: u64, out: &mut [u8; SPACE], at
         flush(out, at);
         return;
     }
-    let at = out::text(out, at, b"malformed call");
-    let at = out::word(out, at, number);
-    let at = out::byte(out, at, b'\n');
+    let at = malformed(out, at, number);
     flush(out, at);
 }
 
+fn malformed(out: &mut [u8; SPACE], at: usize, number: u64) -> usize {
+    let at = out::text(out, at, b"malformed call");
+    let at = out::word(out, at, number);
+    out::byte(out, at, b'\n')
+}
+
 // Where little room is left, what was answered is written out.
-fn roomy(state: State, out: &[u8; SPACE]) -> State {
-    if state.at <= SPACE - LINE {
-        return state;
+fn roomy(out: &[u8; SPACE], at: usize) -> usize {
+    if at <= LINES - LINE {
+        return at;
     }
-    flush(out, state.at);
-    state::written(state, 0)
+    flush(out, at);
+    0
 }
 
 fn flush(out: &[u8; SPACE], at: usize) {

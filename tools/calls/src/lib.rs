@@ -138,6 +138,20 @@ calls! {
     66 AbortUnmarshal { raw: Vec<u8>, codes: u16, depths: u16, starts: u16, sizes: u16, fill: u16 }
     67 TsnCompare { a: u32, b: u32 }
     68 SsnCompare { a: u16, b: u16 }
+    69 IqNew { }
+    70 IqPush { fields: Fields, size: u16, message: u64 }
+    71 IqAcked { tsn: u32 }
+    72 IqRetransmit { }
+    73 IqAbandon { message: u64 }
+    74 IqPop { tsn: u32 }
+    75 IqPopUpTo { tsn: u32 }
+    76 IqGet { tsn: u32 }
+    77 IqNumBytes { }
+    78 IqLen { }
+    79 IqIsEmpty { }
+    80 IqState { }
+    81 IqForge { field: u8, index: u16, value: u64 }
+    82 IqWhole { }
 }
 
 impl Call {
@@ -156,7 +170,7 @@ impl Call {
             }
             Call::PqForge { field, .. } => *field <= 4,
             Call::RqForge { field, .. } => *field <= 9,
-            Call::MForge { field, .. } => *field <= 3,
+            Call::MForge { field, .. } | Call::IqForge { field, .. } => *field <= 3,
             _ => true,
         }
     }
@@ -286,6 +300,8 @@ mod tests {
             Call::PqApplyForward { cumulative: 3, point: 4 },
             Call::PacketChunk { raw: vec![7; 13], place: 1 << 40 },
             Call::PacketMarshal { room: 16, fill: 7, source: 1, destination: 2, tag: 3, chunks: vec![1, 0, 0, 4] },
+            Call::IqPush { fields: Fields { flags: 5, tsn: 9, stream: 1, ssn: 2, identifier: 53 }, size: 7, message: u64::MAX },
+            Call::IqForge { field: 3, index: 1_023, value: 1 << 63 },
         ];
         let mut stream = Vec::new();
         calls.iter().for_each(|c| c.encode(&mut stream));
@@ -325,6 +341,14 @@ mod tests {
         stream.clear();
         Call::PacketChunk { raw: vec![7], place: 8 }.encode(&mut stream);
         assert_eq!(stream, [61, 0, 0, 0, 1, 7, 0, 0, 0, 0, 0, 0, 0, 8]);
+    }
+
+    #[test]
+    fn operands_of_the_in_flight_queue_stand_in_the_order_of_the_table() {
+        let mut stream = Vec::new();
+        Call::IqPush { fields: Fields { flags: 1, tsn: 2, stream: 3, ssn: 4, identifier: 5 }, size: 6, message: 7 }.encode(&mut stream);
+        assert_eq!(stream, [70, 1, 0, 0, 0, 2, 0, 3, 0, 4, 0, 0, 0, 5, 0, 6, 0, 0, 0, 0, 0, 0, 0, 7]);
+        assert_eq!(Call::decode(&mut &[81, 4, 0, 0, 0, 0, 0, 0, 0, 0, 0, 0][..]), None);
     }
 
     #[test]

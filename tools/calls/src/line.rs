@@ -38,6 +38,12 @@ pub fn letters(flags: u8) -> String {
     if set.is_empty() { "-".into() } else { set }
 }
 
+/// The letters of the marks of a chunk in flight: acknowledged, abandoned, to be sent again.
+pub fn marks(acked: bool, abandoned: bool, retransmit: bool) -> String {
+    let set: String = [(acked, 'A'), (abandoned, 'X'), (retransmit, 'R')].iter().filter(|(set, _)| *set).map(|(_, letter)| letter).collect();
+    if set.is_empty() { "-".into() } else { set }
+}
+
 /// A space, and flags, TSN, stream, SSN and identifier.
 pub fn fields(f: &Fields, line: &mut Vec<u8>) {
     write!(line, " {} {} {} {} {}", letters(f.flags), f.tsn, f.stream, f.ssn, f.identifier).unwrap();

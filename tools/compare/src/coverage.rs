@@ -70,6 +70,20 @@ const EXPECTED: &[(&str, &str, &str)] = &[
     ("AbortUnmarshal", "causes,refused 1,refused 2,refused 3,refused 16", "refused 10"),
     ("TsnCompare", "earlier,same,later,opposite", ""),
     ("SsnCompare", "earlier,same,later,opposite", ""),
+    ("IqNew", "done", ""),
+    ("IqPush", "done,refused 18", "refused 0,refused 8"),
+    ("IqAcked", "number,number 0", "refused 0"),
+    ("IqRetransmit", "done", "refused 0"),
+    ("IqAbandon", "number,number 0", "refused 0"),
+    ("IqPop", "sent,none", "refused 0"),
+    ("IqPopUpTo", "done", "refused 0"),
+    ("IqGet", "sent,none", "sent unnamed,refused 0"),
+    ("IqNumBytes", "number", "refused 0"),
+    ("IqLen", "number", "refused 0"),
+    ("IqIsEmpty", "yes,no", "refused 0"),
+    ("IqState", "held", ""),
+    ("IqForge", "", "done"),
+    ("IqWhole", "", "whole"),
 ];
 
 /// What is counted of whole messages and runs.
@@ -125,6 +139,8 @@ pub fn kind<'a>(call: &Call, line: &'a [u8]) -> &'a [u8] {
         },
         Call::DataUnmarshal { .. } if line.starts_with(b"data ") && !kept_at(5, line) => b"data unnamed",
         Call::PqPop { .. } | Call::PqGet { .. } if line.starts_with(b"chunk ") && !kept_at(5, line) => b"chunk unnamed",
+        Call::IqGet { .. } if line.starts_with(b"sent ") && !kept_at(5, line) => b"sent unnamed",
+        Call::IqAcked { .. } | Call::IqAbandon { .. } if line == b"number 0" => line,
         Call::RqRead { .. } if line.starts_with(b"message ") && !kept_at(2, line) => b"message unnamed",
         Call::PacketBytes { .. } if line == b"part -" => line,
         Call::PacketWalk { .. } => line.rsplit(|b| *b == b'|').next().and_then(|last| last.splitn(3, |b| *b == b' ').nth(2)).unwrap_or(line),
@@ -233,7 +249,7 @@ mod tests {
         for (_, name) in Call::NAMES {
             assert!(EXPECTED.iter().any(|(expected, ..)| expected == name), "{name}");
         }
-        for number in 0..=17 {
+        for number in 0..=18 {
             let refused = format!("refused {number}");
             assert!(expected(Mode::Out).any(|(_, _, answer)| answer == refused), "{refused}");
         }

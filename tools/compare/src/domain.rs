@@ -40,6 +40,9 @@ pub fn inside(model: &Model, call: &Call) -> bool {
         Call::Crc32c { .. } | Call::Packet { .. } | Call::PacketChunk { .. } | Call::PacketBytes { .. } | Call::PacketWalk { .. } | Call::PacketMarshal { .. } => packets::inside(call),
         Call::ErrorUnmarshal { .. } | Call::AbortUnmarshal { .. } => causes::inside(call),
         Call::PqPush { fields, cumulative, .. } => !opposite(fields.tsn, *cumulative) && pushable(model, fields, *cumulative),
+        Call::IqPush { fields, .. } => kept(fields.identifier) && model.in_flight.get(fields.tsn) == Ok(None) && sendable(model, fields.tsn),
+        Call::IqPopUpTo { tsn } => one_arc(32, model.in_flight.held().iter().map(|r| r.tsn).chain([*tsn])),
+        Call::IqForge { .. } | Call::IqWhole {} => false,
         Call::PqGapAckBlocks { cumulative, starts, ends, .. } => model.tsns.blocks(*cumulative).len() <= (*starts).min(*ends) as usize,
         Call::RqPush { fields, data } => kept(fields.identifier) && push(&model.reassembly, fields, *data),
         Call::RqRead { room, .. } => fits(&model.reassembly, *room),
@@ -121,6 +124,17 @@ fn tsn_push(model: &Model, tsn: u32, cumulative: u32) -> bool {
     if queue.turned_away(tsn, cumulative) {
         return queue.dups < LOG as u64;
     }
+    queue.count < TSNS as u64 && one_arc(32, queue.held().iter().map(|r| r.tsn).chain([tsn]))
+}
+
+/// A TSN that is in flight already and is pushed again, inside but for this: difference 29.
+pub fn sent_again(model: &Model, call: &Call) -> bool {
+    matches!(call, Call::IqPush { fields, .. } if kept(fields.identifier) && model.in_flight.held().iter().any(|r| r.tsn == fields.tsn))
+}
+
+/// Room in the table in flight, and its TSNs in one arc.
+fn sendable(model: &Model, tsn: u32) -> bool {
+    let queue = &model.in_flight;
     queue.count < TSNS as u64 && one_arc(32, queue.held().iter().map(|r| r.tsn).chain([tsn]))
 }
 

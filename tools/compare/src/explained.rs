@@ -20,6 +20,7 @@ pub const ALL: &[(u8, &str)] = &[
     (25, "causes that are not rounded"),
     (26, "enclosed chunks that are not followed"),
     (27, "bytes where a cause should start"),
+    (29, "a TSN that is in flight already"),
 ];
 
 /// The number of the difference that explains why the Rust answers otherwise, if one does.
@@ -48,6 +49,7 @@ pub fn by(call: &Call, ours: &[u8], oracle: &[u8]) -> Option<u8> {
         Call::PacketWalk { .. } if parted(call) == Some(20) => (20, ours.ends_with(b" none") && oracle == b"error ErrParseSctpChunkNotEnoughData"),
         Call::PacketWalk { .. } if parted(call) == Some(22) => (22, ours.starts_with(b"walk ") && oracle == b"error ErrUnmarshalUnknownChunkType"),
         Call::PqPush { fields, cumulative, .. } => (24, opposite(fields.tsn, *cumulative) && ours == b"refused 17" && [&b"yes"[..], b"no"].contains(&oracle)),
+        Call::IqPush { .. } => (29, ours == b"refused 18" && oracle == b"done"),
         Call::ErrorUnmarshal { raw, .. } | Call::AbortUnmarshal { raw, .. } => match causes::parted(call) {
             Some(number) => (number, causes::begins(call, oracle)),
             None => (9, padding(raw).iter().any(|b| *b != 0) && oracle.starts_with(b"error ErrChunkHeaderPaddingNonZero ")),
@@ -141,6 +143,12 @@ mod tests {
         let push = |tsn, cumulative, ours: &[u8], oracle: &[u8]| by(&Call::PqPush { fields: Fields { tsn, ..Fields::default() }, size: 0, cumulative }, ours, oracle);
         assert_eq!([push(1 << 31, 0, b"refused 17", b"yes"), push(7, 7 + (1 << 31), b"refused 17", b"no")], [Some(24); 2]);
         assert_eq!([push(1, 0, b"refused 17", b"yes"), push(1 << 31, 0, b"no", b"yes"), push(1 << 31, 0, b"refused 17", b"panic")], [None; 3]);
+    }
+
+    #[test]
+    fn a_tsn_in_flight_that_the_rust_takes_again() {
+        let push = |ours: &[u8], oracle: &[u8]| by(&Call::IqPush { fields: Fields::default(), size: 1, message: 0 }, ours, oracle);
+        assert_eq!([push(b"refused 18", b"done"), push(b"refused 8", b"done"), push(b"refused 18", b"panic")], [Some(29), None, None]);
     }
 
     #[test]

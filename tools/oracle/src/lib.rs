@@ -6,6 +6,7 @@ include!(concat!(env!("OUT_DIR"), "/sctp.rs"));
 mod causes;
 mod codec;
 mod forward_tsn;
+mod in_flight;
 mod packets;
 mod panics;
 mod reassembly;
@@ -26,6 +27,7 @@ pub const CRATES: &str = env!("ORACLE_CRATES");
 #[derive(Default)]
 pub struct Oracle {
     tsn_queue: tsn_queue::TsnQueue,
+    in_flight: in_flight::InFlight,
     reassembly: reassembly::Reassembly,
 }
 
@@ -45,7 +47,8 @@ impl Oracle {
             58 => self.reassembly.answer(call, line),
             59..65 => packets::answer(call, line),
             65..67 => causes::answer(call, line),
-            67.. => codec::answer(call, line),
+            67..69 => codec::answer(call, line),
+            69.. => self.in_flight.answer(call, line),
         }
     }
 
@@ -54,6 +57,7 @@ impl Oracle {
         match call.number() {
             16..32 | 57 => self.tsn_queue = Default::default(),
             32..48 | 58 => self.reassembly.renew(),
+            69.. => self.in_flight = Default::default(),
             _ => {}
         }
     }

@@ -74,6 +74,53 @@ pub fn settle_tsns(m: &mut Maker) {
     }
 }
 
+fn flight_field(m: &mut Maker, field: u8, index: u64, value: u64) {
+    m.put(Call::IqForge { field, index: index as u16, value });
+}
+
+/// The in-flight queue: counts, lengths and marks, TSNs that are held twice, numbers of messages.
+pub fn in_flight(m: &mut Maker) {
+    let queue = &m.model.in_flight;
+    let (now, sum, rows) = (queue.count, queue.sum(), queue.held().len().max(1) as u64);
+    let any = m.rng.number();
+    let row = m.rng.below(rows);
+    match m.rng.below(8) {
+        0 => {
+            let value = count(&mut m.rng, now, TSNS as u64);
+            flight_field(m, 0, any, value)
+        }
+        1 => {
+            let value = m.rng.pick(&[sum + 1, sum.wrapping_sub(1), 0, any, u64::MAX]);
+            flight_field(m, 1, any, value)
+        }
+        2 | 3 => {
+            let value = tsn(&mut m.rng, m.model.in_flight.held());
+            flight_field(m, 2, TSNS as u64 + row, value)
+        }
+        4 | 5 => flight_field(m, 2, row, any >> 32),
+        6 => {
+            let column = m.rng.pick(&[2, 3]);
+            flight_field(m, 2, TSNS as u64 * column + row, any >> 20)
+        }
+        _ => flight_field(m, 3, row, any % 5),
+    }
+    if m.rng.one_in(2) {
+        settle_in_flight(m);
+    }
+}
+
+/// Makes the in-flight queue sound again, strange as its records may be.
+pub fn settle_in_flight(m: &mut Maker) {
+    if m.model.in_flight.count > TSNS as u64 {
+        let value = m.rng.pick(&[0, 3, 40, TSNS as u64 - 1, TSNS as u64]);
+        flight_field(m, 0, 0, value);
+    }
+    if m.model.in_flight.sound().is_err() {
+        let sum = m.model.in_flight.sum();
+        flight_field(m, 1, 0, sum);
+    }
+}
+
 pub fn fragments(m: &mut Maker) {
     let any = m.rng.number();
     match m.rng.below(16) {

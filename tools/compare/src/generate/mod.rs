@@ -5,6 +5,7 @@ mod codec;
 mod forge;
 mod forward;
 mod hand;
+mod in_flight;
 mod packets;
 mod plan;
 mod reassembly;
@@ -92,7 +93,8 @@ impl Maker {
             18..22 => codec::serials(self),
             22..30 => packets::run(self),
             30..35 => causes::run(self),
-            35..54 => tsns::run(self),
+            35..48 => tsns::run(self),
+            48..56 => in_flight::run(self),
             _ => reassembly::run(self),
         }
     }
@@ -133,9 +135,9 @@ impl Maker {
         let mut tail = Vec::new();
         match self.rng.below(6) {
             0 => return,
-            1 => tail.push(self.rng.pick(&[0, 15, 42, 47, 67, 255])),
+            1 => tail.push(self.rng.pick(&[0, 15, 47, 83, 255])),
             2 => tail.extend([self.rng.pick(&[5, 53, 58, 59, 63, 65, 66]), 0, 1, 0, 65]),
-            3 => tail.extend([self.rng.pick(&[30, 40, 52]), 10, 0, 0, 0, 0, 0, 0, 0, 0, 0, 0]),
+            3 => tail.extend([self.rng.pick(&[30, 40, 52, 81]), 10, 0, 0, 0, 0, 0, 0, 0, 0, 0, 0]),
             4 => tail.extend([self.rng.pick(&[35, 56, 64]), 0, 1, 0, 65, 7]),
             _ => {
                 let last = self.batch.calls.iter().rev().find(|call| !matches!(call, Call::PqNew {})).expect("a call");

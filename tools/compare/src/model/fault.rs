@@ -93,6 +93,14 @@ faults! {
     LaterIgnored "TSNs held from a bounded skip's SSN on play no part in how far it applies"
     PartByLast "a set ends a part of a bounded skip by its last TSN"
     LowestPart "a bounded skip applies to the lowest SSN that may end a part"
+    HeldSentAgain "a TSN in flight is pushed again, as by the Rust"
+    RoomBeforeHeld "the room is tested before a TSN that is in flight"
+    FlightSumTrusted "a byte count of the in-flight queue that is not the sum goes unnoticed"
+    MessagesLeft "the numbers of messages do not move with their records"
+    StillSentAgain "a chunk that is acknowledged or abandoned stays marked to be sent again"
+    AbandonedNotAcked "an abandoned chunk is not acknowledged"
+    AbandonedSentAgain "abandoned chunks are marked to be sent again"
+    MessageCut "a message's number is cut to 32 bits"
 }
 
 /// Which mistake is made, if any.

@@ -7,6 +7,7 @@ pub mod fault;
 pub mod forward;
 pub mod fragments;
 pub mod hand;
+pub mod in_flight;
 pub mod packets;
 pub mod rows;
 pub mod serial;
@@ -20,6 +21,7 @@ use calls::{Answers, Call, POOL, line, words};
 use fault::{Fault, Wrong};
 use fragments::Reassembly;
 use hand::Hand;
+use in_flight::InFlight;
 use rows::Row;
 use serial::Serial;
 use tsns::{LOG, Tsns};
@@ -27,6 +29,7 @@ use tsns::{LOG, Tsns};
 #[derive(Clone)]
 pub struct Model {
     pub tsns: Tsns,
+    pub in_flight: InFlight,
     pub reassembly: Reassembly,
     pub hand: Option<Hand>,
     serial: Serial,
@@ -40,7 +43,7 @@ impl Model {
     /// A model that makes this mistake.
     pub fn wrong(fault: Option<Fault>) -> Model {
         let serial = Serial { wrong: Wrong(fault) };
-        Model { tsns: Tsns::new(serial), reassembly: Reassembly::new(serial), hand: None, serial }
+        Model { tsns: Tsns::new(serial), in_flight: InFlight::new(serial), reassembly: Reassembly::new(serial), hand: None, serial }
     }
 }
 
@@ -52,7 +55,8 @@ impl Answers for Model {
             32..=43 => self.answer_reassembly(call, line),
             53..=58 => self.answer_forward(call, line),
             59..=64 => self.answer_packets(call, line),
-            65.. => self.answer_causes(call, line),
+            65 | 66 => self.answer_causes(call, line),
+            69.. => in_flight::answer(&mut self.in_flight, call, line),
             _ => match self.hand.take() {
                 Some(mut hand) => {
                     answer_hand(&mut hand, call, line);

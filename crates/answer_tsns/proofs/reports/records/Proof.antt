@@ -5,12 +5,12 @@ use Rattle.answer_tsns.proofs.reports.records.Statement.{statement}
 use Rattle.answer_tsns.proofs.reports.records.Tie as tie
 
 abbrev Inv : tie.InvT-loop
-Inv out₀ at table n at₀ i₀ t7 out at' i = Unit {0}
+Inv out₀ at table n at₀ i₀ out at' i = Unit {0}
 
 abbrev μ : tie.MeasureT-loop
-μ out₀ at table n at₀ i₀ t7 out at' i = n - i
+μ out₀ at table n at₀ i₀ out at' i = n - i
 
 pub records-spec : {M : Type 1} → statement M
 records-spec =
     tie.close
-    (tie.spec Inv μ (λ c. search needs) (λ c. search needs) (λ c κs. search needs) (λ c κs. search needs) (λ c. search needs) (λ c. search needs) (λ c. search needs) (λ c. search needs))
+    (tie.spec Inv μ (λ c. search needs) (λ c κs. search needs) (λ c κs. search needs) (λ c. search needs) (λ c. search needs) (λ c. search needs) (λ c. search needs))

@@ -8,7 +8,7 @@ abbrev Inv : tie.InvT-loop
 Inv name names number₀ from₀ number from = Unit {0}
 
 abbrev μ : tie.MeasureT-loop
-μ name names number₀ from₀ number from = 69 - number
+μ name names number₀ from₀ number from = 83 - number
 
 pub named-spec : {M : Type 1} → statement M
 named-spec =
