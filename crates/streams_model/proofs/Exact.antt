@@ -1,4 +1,4 @@
--- An ordered fragment that is kept is one more, and its bytes are as many more.
+-- A fragment that is placed among others, or an ordered one that is kept, is one more, and its bytes are as many more.
 -- Assumes nothing.
 use mathlib.Core.Path.{_≡_, refl, ap, _∙_}
 use mathlib.Core.Bool.{Bool, true, false, cond}
@@ -20,7 +20,7 @@ module _ (n : ℕ) where
   between : (a b c : List Frag) {d : List Frag} → OneMore n b d → OneMore n (a ++ (b ++ c)) (a ++ (d ++ c))
   between a b c h = record { few = simp length-append (omega (arith, h .few)); bytes = simp size-append (omega (arith, h .bytes)) }
 
-placed-one : (p : Frag → Bool) (f : Frag) (l : List Frag) → OneMore (length (f .bytes)) l (placed p f l)
+pub placed-one : (p : Frag → Bool) (f : Frag) (l : List Frag) → OneMore (length (f .bytes)) l (placed p f l)
 unfolding placed size
 placed-one p f [] = record { few = refl; bytes = refl }
 placed-one p f (x ∷ xs) = go (any p (x ∷ xs)) (placed-one p f xs)

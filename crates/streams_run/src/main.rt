@@ -1,4 +1,5 @@
 // Eight streams in one pool, run: what one stream may hold, what each of the others is sure of then, and what comes free.
+ghost use Prim.Native.Nat.{_≤_};
 use chunk_payload_data::ChunkPayloadData;
 use chunks::Flag;
 use chunks::Number;
@@ -15,23 +16,29 @@ fn main() {
     let streams = fill(streams, &mut table, &mut pool, 0, 16);
     let streams = fill(streams, &mut table, &mut pool, 7, 16);
     let streams = fill(streams, &mut table, &mut pool, 8, 0);
-    print::text(b"Stream 3 skips to TSN 199: ");
-    let left = reassembly_streams::forward_tsn_for_unordered(
-        streams,
-        &mut table,
-        &mut pool,
-        3,
-        199,
-    );
-    held(left.streams, &table, &pool, 3);
-    print::text(b"\n");
-    let streams = fill(left.streams, &mut table, &mut pool, 7, 84);
+    let streams = skip(streams, &mut table, &mut pool, 3, 300199);
+    let streams = fill(streams, &mut table, &mut pool, 7, 84);
     let streams = message(streams, &mut table, &mut pool, 0);
     let streams = message(streams, &mut table, &mut pool, 7);
     held(streams, &table, &pool, 3);
     print::text(b" of stream 3, ");
     held(streams, &table, &pool, 7);
     print::text(b" of stream 7.\n");
+}
+
+// An unordered skip on a stream, and how many bytes it holds then.
+fn skip(
+    streams: Streams,
+    table: &mut [u32; WORDS],
+    pool: &mut [u8; BYTES],
+    stream: u16,
+    tsn: u32,
+) -> Streams {
+    let left = reassembly_streams::forward_tsn_for_unordered(streams, table, pool, stream, tsn);
+    print::with_number(b"Stream % skips and holds ", stream as u64);
+    held(left.streams, table, pool, stream);
+    print::text(b"\n");
+    left.streams
 }
 
 // A chunk of a stream, the first or the last of its message or neither.
@@ -48,47 +55,65 @@ fn chunk(stream: u16, tsn: u32, unordered: bool, first: bool, last: bool) -> Chu
     }
 }
 
-// So many unordered fragments of one byte more for a stream, each the first of a message, and then one more, whose answer is told.
-fn fill(
+// An unordered fragment, the first of its message.
+fn loose(stream: u16, tsn: u32) -> ChunkPayloadData {
+    chunk(stream, tsn, true, true, false)
+}
+
+// So many of one byte for a stream, with a TSN between each two.
+fn push_many(
     streams: Streams,
     table: &mut [u32; WORDS],
-    pool: &mut [u8],
+    pool: &mut [u8; BYTES],
     stream: u16,
+    base: u32,
     n: u32,
-) -> Streams {
+) -> Streams
+    requires { ⌜ base ≤ 700000 ⌝ }
+    requires { ⌜ n ≤ 1000 ⌝ }
+{
     let mut now = streams;
     let mut i: u32 = 0;
     while i < n {
-        let c = chunk(
-            stream,
-            (stream as u32) % 8 * 100000 + i * 2,
-            true,
-            true,
-            false,
-        );
-        let left = reassembly_streams::push(now, table, pool, stream, c, b"x");
-        now = left.streams;
+        let tsn = base + i * 2;
         i += 1;
+        let left = reassembly_streams::push(now, table, pool, stream, loose(stream, tsn), b"x");
+        now = left.streams;
     }
-    print::with_number(b"Stream # holds ", stream as u64);
+    now
+}
+
+// These, and then one more, whose answer is told.
+fn fill(
+    streams: Streams,
+    table: &mut [u32; WORDS],
+    pool: &mut [u8; BYTES],
+    stream: u16,
+    n: u32,
+) -> Streams
+    requires { ⌜ n ≤ 1000 ⌝ }
+{
+    let base = (stream as u32) % 8 * 100000;
+    let now = push_many(streams, table, pool, stream, base, n);
+    print::with_number(b"Stream % holds ", stream as u64);
     held(now, table, pool, stream);
     print::text(b", one more: ");
-    let c = chunk(
-        stream,
-        (stream as u32) % 8 * 100000 + 90000,
-        true,
-        true,
-        false,
-    );
+    let c = loose(stream, base + 90000);
     let left = reassembly_streams::push(now, table, pool, stream, c, b"x");
-    told(left.answer);
+    let answer = left.answer;
+    told(answer);
     left.streams
 }
 
 // An ordered message of two chunks, the last first, and what comes of it.
-fn message(streams: Streams, table: &mut [u32; WORDS], pool: &mut [u8], stream: u16) -> Streams {
+fn message(
+    streams: Streams,
+    table: &mut [u32; WORDS],
+    pool: &mut [u8; BYTES],
+    stream: u16,
+) -> Streams {
     let mut buffer = [0u8; 8];
-    print::with_number(b"Stream #: ", stream as u64);
+    print::with_number(b"Stream %: ", stream as u64);
     let last = reassembly_streams::push(
         streams,
         table,
@@ -97,7 +122,8 @@ fn message(streams: Streams, table: &mut [u32; WORDS], pool: &mut [u8], stream: 
         chunk(stream, 7, false, false, true),
         b"lo",
     );
-    told(last.answer);
+    let answer = last.answer;
+    told(answer);
     let first = reassembly_streams::push(
         last.streams,
         table,
@@ -106,7 +132,8 @@ fn message(streams: Streams, table: &mut [u32; WORDS], pool: &mut [u8], stream: 
         chunk(stream, 6, false, true, false),
         b"hel",
     );
-    told(first.answer);
+    let answer = first.answer;
+    told(answer);
     let taken = reassembly_streams::read(first.streams, table, pool, stream, &mut buffer);
     let answer = taken.answer;
     match answer {
@@ -121,7 +148,7 @@ fn message(streams: Streams, table: &mut [u32; WORDS], pool: &mut [u8], stream: 
 }
 
 // How many bytes a stream holds.
-fn held(streams: Streams, table: &[u32; WORDS], pool: &[u8], stream: u16) {
+fn held(streams: Streams, table: &[u32; WORDS], pool: &[u8; BYTES], stream: u16) {
     let answer = reassembly_streams::get_num_bytes(streams, table, pool, stream);
     match answer {
         Number::Is(n) => print::number(n as u64),

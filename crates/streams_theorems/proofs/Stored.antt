@@ -10,17 +10,15 @@ use lib.ListN.{length, length-append}
 use Rattle.wire.specs.Refusal.{none, says}
 use Rattle.moves.specs.Lists.{slice, gone}
 use Rattle.moves.proofs.Turned.{turned-long}
-use Rattle.fragments.specs.Frag.{Frag, ssnOf, hasSsn, tsnBefore, ssnBefore}
-use Rattle.fragments.specs.Words.{size, any, while, past, placed}
+use Rattle.fragments.specs.Frag.{Frag, tsnBefore}
+use Rattle.fragments.specs.Words.{size, placed}
 use Rattle.fragments.proofs.Pool.{size-append, size-turned}
-use Rattle.fragments.proofs.Words.{while-past}
-use Rattle.fragment_sets.specs.Sets.{otherSsn, fromSet, setOf, grownSet, joins, stored}
-use Rattle.fragment_sets.proofs.Sets.{stored-in, stored-new}
 use Rattle.loose_fragments.specs.Loose.{scanned}
 use Rattle.loose_fragments.specs.declared.Span.{Span}
 use Rattle.loose_fragments.proofs.Scanned.{scan-within}
 use Rattle.reassembly_state.specs.Model.{Queue, queue, held, gives, keepOrdered, moveRun, keepLoose}
 use Rattle.reassembly_state.proofs.Parts.{turned-middle}
+use Rattle.streams_model.proofs.Exact.{placed-one, kept-one}
 
 -- ── as many fragments and as many bytes ──
 
@@ -45,38 +43,12 @@ deeper f a b = record { few = simp length-append (omega arith); small = simp siz
 -- ── what is stored ──
 
 placed-same : (p : Frag → Bool) (f : Frag) (l : List Frag) → Same (f ∷ l) (placed p f l)
-unfolding placed
-placed-same p f [] = same (f ∷ [])
-placed-same p f (x ∷ xs) = go (any p (x ∷ xs)) (placed-same p f xs)
-  where
-    go : (b : Bool) → Same (f ∷ xs) (placed p f xs) → Same (f ∷ x ∷ xs) (cond b (x ∷ placed p f xs) (f ∷ x ∷ xs))
-    go true h = onward (deeper f (x ∷ []) xs) (beside (same (x ∷ [])) h)
-    go false h = same (f ∷ x ∷ xs)
+unfolding size
+placed-same p f l = let h = placed-one p f l in record { few = h .few; small = h .bytes }
 
-joins-same : (s : List Frag) (f : Frag) (l : List Frag) → Same (f ∷ l) (joins s f ∷ l)
-unfolding joins size
-joins-same [] f l = same (f ∷ l)
-joins-same (x ∷ s) f l = record { few = refl; small = refl }
-
-grown-same : (f : Frag) (l : List Frag) → Same (f ∷ setOf (ssnOf f) l) (grownSet f l)
-unfolding grownSet
-grown-same f l = let s = setOf (ssnOf f) l in onward (joins-same s f s) (placed-same (tsnBefore (f .tsn)) (joins s f) s)
-
-module _ (f : Frag) (l : List Frag) where
-  -- the first set of its SSN stands between others
-  set-between : while (otherSsn (ssnOf f)) l ++ (setOf (ssnOf f) l ++ past (hasSsn (ssnOf f)) (fromSet (ssnOf f) l)) ≡ l
-  unfolding setOf
-  set-between = rw (while-past (hasSsn (ssnOf f)) (fromSet (ssnOf f) l), while-past (otherSsn (ssnOf f)) l)
-
+module _ (f : Frag) where
   inside : (a b c : List Frag) {d : List Frag} → Same (f ∷ b) d → Same (f ∷ (a ++ (b ++ c))) (a ++ (d ++ c))
   inside a b c h = onward (deeper f a (b ++ c)) (beside (same a) (beside h (same c)))
-
-  stored-same : Same (f ∷ l) (stored f l)
-  stored-same = go (any (hasSsn (ssnOf f)) l) refl
-    where
-      go : (b : Bool) → any (hasSsn (ssnOf f)) l ≡ b → Same (f ∷ l) (stored f l)
-      go true e = rw (stored-in f l e) (rw set-between at (inside (while (otherSsn (ssnOf f)) l) (setOf (ssnOf f) l) (past (hasSsn (ssnOf f)) (fromSet (ssnOf f) l)) (grown-same f l)))
-      go false e = rw (stored-new f l e) (placed-same (ssnBefore (ssnOf f)) f l)
 
 -- a run of the middle list joins the first
 run-same : (a b c : List Frag) (x y : ℕ) → x ≤ y → y ≤ length b → Same (a ++ (b ++ c)) ((a ++ slice x y b) ++ (gone x (y - x) b ++ c))
@@ -102,10 +74,7 @@ module _ (q : Queue) (f : Frag) where
   grown m h = record { frags = omega (arith, h .few); bytes = omega (arith, h .small) }
 
   pub ordered-grown : Grown q f (keepOrdered q f .queue)
-  unfolding keepOrdered
-  ordered-grown =
-      grown _ (onward (deeper f (q .finished) (q .unordered ++ q .ordered))
-      (beside (same (q .finished)) (onward (deeper f (q .unordered) (q .ordered)) (beside (same (q .unordered)) (stored-same f (q .ordered))))))
+  ordered-grown = let h = kept-one q f in record { frags = omega (arith, h .few); bytes = omega (arith, h .bytes) }
 
   move-same : (l : List Frag) (s : Span) → s .from ≤ s .to → s .to ≤ length l → Same (q .finished ++ (l ++ q .ordered)) (held (moveRun q l s .queue))
   unfolding moveRun
@@ -122,4 +91,4 @@ module _ (q : Queue) (f : Frag) where
   loose-grown =
       let l = placed (tsnBefore (f .tsn)) f (q .unordered) in
       let k = scan-within l in
-      grown _ (onward (inside f (q .unordered) (q .finished) (q .unordered) (q .ordered) (placed-same (tsnBefore (f .tsn)) f (q .unordered))) (move-same l (scanned l) (k .0) (k .1)))
+      grown _ (onward (inside f (q .finished) (q .unordered) (q .ordered) (placed-same (tsnBefore (f .tsn)) f (q .unordered))) (move-same l (scanned l) (k .0) (k .1)))
