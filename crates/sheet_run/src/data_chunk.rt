@@ -20,14 +20,11 @@ fn fields(identifier: u32) -> ChunkPayloadData {
 pub fn p2() {
     let mut out = [0u8; 19];
     let answer = chunk_payload_data::marshal_to(&mut out, fields(51), b"abc");
-    print::text(b"P2 ");
     read(&out);
-    print::text(b": ");
     match answer {
         Marshalled::Refused(k) => show::refused(k),
-        Marshalled::Bytes(n) => print::bytes(print::first(&out, n)),
+        Marshalled::Bytes(n) => show::bytes(print::first(&out, n)),
     }
-    print::text(b".\n");
 }
 
 fn read(raw: &[u8]) {
@@ -39,7 +36,7 @@ fn read(raw: &[u8]) {
             let user = chunk_payload_data::user_data(raw, &mut refusal);
             flags(f);
             numbers(f);
-            print::quoted(user);
+            show::quoted(user);
         }
     }
 }
@@ -47,7 +44,7 @@ fn read(raw: &[u8]) {
 // U, B and E, by their bits 4, 2 and 1.
 fn flags(f: ChunkPayloadData) {
     let bits = chunk_payload_data::flags_of(f) % 8;
-    print::text(b"DATA, ");
+    show::text();
     print::one_of(
         b"|E|B and |B and E|U and |U and E|U and B and |U and B and E",
         bits as usize,
@@ -55,23 +52,17 @@ fn flags(f: ChunkPayloadData) {
 }
 
 fn numbers(f: ChunkPayloadData) {
-    let tsn = f.tsn as u64;
-    let stream = f.stream_identifier as u64;
-    let ssn = f.stream_sequence_number as u64;
-    print::filled(
-        b", TSN %, stream %, SSN %, identifier %, ",
-        [tsn, stream, ssn, f.payload_type as u64],
-    );
+    show::number(f.tsn as u64);
+    show::number(f.stream_identifier as u64);
+    show::number(f.stream_sequence_number as u64);
+    show::number(f.payload_type as u64);
 }
 
 pub fn p3() {
     let mut out = [0u8; 19];
     chunk_payload_data::marshal_to(&mut out, fields(7), b"abc");
-    print::text(b"P3 Identifier 7 reads as ");
     identifier(b"\x00\x03\x00\x13\x00\x00\x00\x0A\x00\x02\x00\x05\x00\x00\x00\x07abc");
-    print::text(b" and is written as ");
     identifier(&out);
-    print::text(b".\n");
 }
 
 // Prints the identifier of the chunk that these bytes are.
@@ -79,16 +70,13 @@ fn identifier(raw: &[u8]) {
     let answer = chunk_payload_data::unmarshal(raw);
     match answer {
         Unmarshalled::Refused(k) => show::refused(k),
-        Unmarshalled::Fields(f) => print::number(f.payload_type as u64),
+        Unmarshalled::Fields(f) => show::number(f.payload_type as u64),
     }
 }
 
 pub fn p4() {
-    print::text(b"P4 DATA length 15: ");
     of_length(15);
-    print::text(b". Length 16: ");
     of_length(16);
-    print::text(b".\n");
 }
 
 // P2's bytes with this length: the refusal, if fields and user data are refused alike; or that it is accepted.
@@ -104,6 +92,6 @@ fn of_length(size: u8) {
                 show::refused(k);
             }
         }
-        Unmarshalled::Fields(_) => print::text(b"accepted"),
+        Unmarshalled::Fields(_) => show::word(b"accepted"),
     }
 }

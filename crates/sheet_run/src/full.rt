@@ -13,11 +13,8 @@ pub fn fragments() {
     let mut pool = [0u8; BYTES];
     let q = ReassemblyQueue::new(0, 10);
     let q = fill(q, &mut table, &mut pool);
-    print::text(b"Run only: 512th fragment ");
     let q = one_more(q, &mut table, &mut pool, 1000, 512);
-    print::text(b", 513th ");
     one_more(q, &mut table, &mut pool, 2000, 513);
-    print::text(b".\n");
 }
 
 // Unordered fragments of a byte each, all B and none E, one fewer than there is room for.
@@ -64,7 +61,7 @@ fn stored(answer: Number, want: usize) {
         Number::Refused(k) => show::refused(k),
         Number::Is(n) => {
             if n == want {
-                print::text(b"stored");
+                show::word(b"stored");
             }
         }
     }

@@ -16,11 +16,8 @@ fn message(size: usize) -> Chunks {
 }
 
 pub fn p12() {
-    print::text(b"P12 Ten bytes, m = 4: ");
     pieces(message(10), b"1234567890", 4);
-    print::text(b". Empty message: ");
     pieces(message(0), b"", 2);
-    print::text(b".\n");
 }
 
 // The next n pieces of at most four bytes.
@@ -28,9 +25,6 @@ fn pieces(m: Chunks, buffer: &[u8], n: usize) {
     let mut m = m;
     let mut i: usize = 0;
     while i < n {
-        if 0 < i {
-            print::text(b", ");
-        }
         m = piece(m, buffer, 4);
         i += 1;
     }
@@ -42,7 +36,7 @@ fn piece(m: Chunks, buffer: &[u8], most: usize) -> Chunks {
     let answer = next.answer;
     match answer {
         Piece::Refused(k) => show::refused(k),
-        Piece::Nothing => print::text(b"none"),
+        Piece::Nothing => show::word(b"none"),
         Piece::At(part) => length(part.size),
     }
     next.message
@@ -50,9 +44,9 @@ fn piece(m: Chunks, buffer: &[u8], most: usize) -> Chunks {
 
 fn length(n: usize) {
     if n == 0 {
-        print::text(b"one empty piece");
+        show::word(b"one empty piece");
     } else {
-        print::number(n as u64);
+        show::number(n as u64);
     }
 }
 
@@ -60,12 +54,9 @@ pub fn short_buffer() {
     let mut out = [0u8; 4];
     let m = message(6);
     let answer = m.read(b"abcdef", &mut out);
-    print::text(b"Run only: \"abcdef\" read into 4 bytes: ");
-    print::quoted(&out);
-    print::text(b" and ");
+    show::quoted(&out);
     match answer {
         Number::Refused(k) => show::refused(k),
-        Number::Is(n) => print::number(n as u64),
+        Number::Is(n) => show::number(n as u64),
     }
-    print::text(b".\n");
 }

@@ -1,5 +1,5 @@
-// Runs the bench sheet of document 01 on the code and prints it line by line: what stands behind "is", ":", "gives" and "as" is what the
-// calls answer. Crate `sheet` states the same lines of the definitions.
+// Runs the bench sheet of document 01 on the code: the sheet comes with a blank, %, for each answer, and goes out with what the calls answer in them.
+// Crate `sheet` states the same lines of the definitions.
 mod arrivals;
 mod data_chunk;
 mod full;
@@ -24,4 +24,5 @@ fn main() {
     hand::p12();
     full::fragments();
     hand::short_buffer();
+    show::text();
 }

@@ -7,17 +7,14 @@ use payload_queue::PayloadQueue;
 use payload_queue::WORDS;
 
 pub fn p6() {
-    print::text(b"P6 ");
     report([102, 103, 105], 100);
 }
 
 pub fn p7() {
-    print::text(b"P7 ");
     report([4294967295, 0, 2], 4294967294);
 }
 
 pub fn p8() {
-    print::text(b"P8 ");
     report([65534, 65535, 65536], 0);
 }
 
@@ -25,24 +22,18 @@ fn report(tsns: [u32; 3], cumulative: u32) {
     let mut table = [0u32; WORDS];
     let mut starts = [0u16; 2];
     let mut ends = [0u16; 2];
-    print::text(b"Queued ");
     let queue = queue_all(&mut table, tsns, cumulative);
-    print::with_number(b", cumulative %: ", cumulative as u64);
     let answer = queue.get_gap_ack_blocks(&table, cumulative, &mut starts, &mut ends);
     match answer {
         Number::Refused(k) => show::refused(k),
         Number::Is(n) => blocks(starts, ends, n),
     }
-    print::text(b".\n");
 }
 
 fn queue_all(table: &mut [u32; WORDS], tsns: [u32; 3], cumulative: u32) -> PayloadQueue {
     let mut queue = PayloadQueue::new();
     let mut i: usize = 0;
     while i < 3 {
-        if 0 < i {
-            print::text(b", ");
-        }
         queue = queue_up(queue, table, tsns[i], cumulative);
         i += 1;
     }
@@ -62,7 +53,7 @@ fn queue_up(
         Flag::Refused(k) => show::refused(k),
         Flag::Is(stored) => {
             if stored {
-                print::number(tsn as u64);
+                show::number(tsn as u64);
             }
         }
     }
@@ -87,7 +78,6 @@ fn blocks(starts: [u16; 2], ends: [u16; 2], n: usize) {
         show::block(starts[0], ends[0]);
     }
     if 1 < n {
-        print::text(b", ");
         show::block(starts[1], ends[1]);
     }
 }

@@ -11,14 +11,11 @@ pub fn p5() {
     let duplicates: [u32; 1] = [98];
     let mut out = [0u8; 28];
     let answer = chunk_selective_ack::marshal_to(&mut out, 100, 1500, &starts, &ends, &duplicates);
-    print::text(b"P5 ");
     read(&out);
-    print::text(b": ");
     match answer {
         Marshalled::Refused(k) => show::refused(k),
-        Marshalled::Bytes(n) => print::bytes(print::first(&out, n)),
+        Marshalled::Bytes(n) => show::bytes(print::first(&out, n)),
     }
-    print::text(b".\n");
 }
 
 fn read(raw: &[u8]) {
@@ -26,9 +23,8 @@ fn read(raw: &[u8]) {
     match answer {
         Unmarshalled::Refused(k) => show::refused(k),
         Unmarshalled::Fields(f) => {
-            let cumulative = f.cumulative_tsn_ack as u64;
-            let window = f.advertised_receiver_window_credit as u64;
-            print::filled(b"SACK, cumulative %, a_rwnd %", [cumulative, window, 0, 0]);
+            show::number(f.cumulative_tsn_ack as u64);
+            show::number(f.advertised_receiver_window_credit as u64);
             lists(raw);
         }
     }
@@ -37,12 +33,9 @@ fn read(raw: &[u8]) {
 fn lists(raw: &[u8]) {
     let mut refusal: u8 = 0;
     let blocks = chunk_selective_ack::gap_ack_blocks(raw, &mut refusal);
-    print::text(b", blocks ");
     block(blocks, 0);
-    print::text(b" and ");
     block(blocks, 1);
     let tsns = chunk_selective_ack::duplicate_tsns(raw, &mut refusal);
-    print::text(b", duplicate ");
     duplicate(tsns, 0);
 }
 
@@ -58,6 +51,6 @@ fn duplicate(part: &[u8], i: usize) {
     let answer = chunk_selective_ack::duplicate_tsn_at(part, i);
     match answer {
         DuplicateTsnAt::Refused(k) => show::refused(k),
-        DuplicateTsnAt::Tsn(tsn) => print::number(tsn as u64),
+        DuplicateTsnAt::Tsn(tsn) => show::number(tsn as u64),
     }
 }
