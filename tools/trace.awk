@@ -1,5 +1,5 @@
 # Holds the names in the documents against the tree, as tools/trace says. Reads, each behind its what=..: items (what tools/items prints), handed (crate
-# TAB crate TAB name, or file TAB TAB name), files (a list), groups (program TAB group of checks), numbers (the documents whose paragraphs are numbered), then the documents.
+# TAB crate TAB name, or file TAB TAB name), files (a list), groups (`checks` TAB a group of it), numbers (the documents whose paragraphs are numbered), then the documents.
 
 # ── what is there ──
 
@@ -40,7 +40,7 @@ what == "handed" {
     else if (($2 "::" $3) in called) called[$1 "::" $3] = 1
     next
 }
-# a file goes by its name without crates/ and its ending; its folders too, and an edit and a file alone
+# a file goes by its name without crates/ and its ending; its folders too, those of tools/ also without that, and an edit and a file alone
 what == "files" {
     file[$1] = 1
     s = $1
@@ -50,7 +50,7 @@ what == "files" {
     known("", b, "file")
     s = $1
     while (sub(/\/[^\/]*$/, "", s)) {
-        b = s; sub(/^crates\//, "", b); file[b] = 1
+        b = s; sub(/^crates\//, "", b); file[b] = 1; sub(/^tools\//, "", b); file[b] = 1
         b = s; sub(/^.*\//, "", b); folder[b "/"] = 1
     }
     next
@@ -144,7 +144,7 @@ function read_text(text,    k, parts, i, sep, s, j, owner, listed) {
     if (!listed) flush()
 }
 
-# `checks: DATA read, SACK (P4); replies`: programs; and sections of checks, or the first words of some
+# `checks: DATA read, SACK (P4); replies`: programs and tools; and sections of checks, or the first words of some
 function tests(cell,    k, parts, i, p, g, m, names, j) {
     gsub(/\([^)]*\)/, "", cell)
     k = split(cell, parts, ";")
