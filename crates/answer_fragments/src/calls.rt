@@ -10,8 +10,6 @@ use answer_text::lists;
 use answer_text::operands;
 use answer_text::out::SPACE;
 use chunk_payload_data::ChunkPayloadData;
-use chunks::Flag;
-use chunks::Number;
 use reassembly_queue::Applicable;
 use reassembly_queue::Done;
 use reassembly_queue::Pushed;
@@ -48,8 +46,8 @@ fn asked(state: &[u64; KEPT], call: &[u8], table: &[u32; WORDS], pool: &[u8; POO
     let queue = kept::queue(state);
     let part = operands::first(pool, lent(state));
     match operands::u8_at(call, 0) {
-        34 => flag(queue.is_readable(table, part)),
-        38 => number(queue.get_num_bytes(table, part)),
+        34 => answer_hand::flag(queue.is_readable(table, part)),
+        38 => answer_hand::number(queue.get_num_bytes(table, part)),
         43 => applicable(queue, call, table, part),
         _ => shown::whole(queue, table, pool),
     }
@@ -64,20 +62,6 @@ fn applicable(queue: ReassemblyQueue, call: &[u8], table: &[u32; WORDS], pool: &
         Applicable::Ssn(ssn) => answer::one(answer::NUMBER, ssn as u64),
         Applicable::Nothing => answer::plain(answer::NONE),
         Applicable::Refused(k) => answer::refused(k),
-    }
-}
-
-pub fn flag(told: Flag) -> Answer {
-    match told {
-        Flag::Is(yes) => answer::is(yes),
-        Flag::Refused(k) => answer::refused(k),
-    }
-}
-
-pub fn number(told: Number) -> Answer {
-    match told {
-        Number::Is(n) => answer::one(answer::NUMBER, n as u64),
-        Number::Refused(k) => answer::refused(k),
     }
 }
 
@@ -143,5 +127,5 @@ fn pushed(
     let told = pushed.answer;
     let queue = pushed.queue;
     kept::put(state, queue);
-    flag(told)
+    answer_hand::flag(told)
 }

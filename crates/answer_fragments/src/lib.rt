@@ -1,7 +1,6 @@
-// The calls of the reassembly queue and of the message in hand.
+// The calls of the reassembly queue; those of the message in hand stand in crate `answer_hand`.
 mod calls;
 mod forge;
-mod hand;
 pub mod kept;
 mod shown;
 mod taken;
@@ -27,7 +26,7 @@ pub fn call(
 ) -> usize {
     match operands::u8_at(call, 0) {
         35 => taken::read(state, call, table, pool, buffer, out, at),
-        48..=52 => hand::call(state, call, buffer, out, at),
+        48..=52 => answer_hand::call(state, call, buffer, out, at),
         _ => queue(state, call, table, pool, out, at),
     }
 }

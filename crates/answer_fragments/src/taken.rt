@@ -34,7 +34,11 @@ pub fn read(
 
 // What the buffer held before is cleared, so that all behind the new room is 0; how much is lent of it.
 fn readied(state: &[u64; KEPT], call: &[u8], buffer: &mut [u8; BYTES]) -> usize {
-    lists::fill(buffer, answer_text::kept::size(state, kept::REACH), 0);
+    lists::fill(
+        buffer,
+        answer_text::kept::size(state, answer_hand::kept::REACH),
+        0,
+    );
     let room = operands::most(operands::size_at(call, 1), BYTES);
     lists::fill(buffer, room, operands::u8_at(call, 5));
     room
@@ -88,14 +92,14 @@ fn took(state: &mut [u64; KEPT], told: Took, room: usize) -> Answer {
 }
 
 fn message(state: &mut [u64; KEPT], m: Chunks, room: usize) -> Answer {
-    kept::put_message(state, m);
-    kept::hold(state, 1, room);
+    answer_hand::kept::put_message(state, m);
+    answer_hand::kept::hold(state, 1, room);
     let ssn = m.ssn as u64;
     let ppi = m.ppi as u64;
     answer::five(answer::MESSAGE, 3, ssn, ppi, m.size as u64, 0, 0)
 }
 
 fn none(state: &mut [u64; KEPT], room: usize, told: Answer) -> Answer {
-    kept::hold(state, 0, room);
+    answer_hand::kept::hold(state, 0, room);
     told
 }

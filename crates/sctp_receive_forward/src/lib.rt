@@ -43,7 +43,7 @@ pub fn apply_to_stream(
         streams,
     );
     let left = skipped.queue;
-    sctp_receive_fragments::put(
+    sctp_receive_model::fragments::put(
         left,
         si,
         next_ssn,
@@ -54,5 +54,5 @@ pub fn apply_to_stream(
         n_bytes,
     );
     let answer = skipped.answer;
-    sctp_receive_fragments::forwarded(answer)
+    sctp_receive_model::fragments::forwarded(answer)
 }

@@ -18,7 +18,7 @@ pub fn apply_to_tsns(
 ) -> i32
     ensures { λ r. ⌜ tsns.after (done (back r)) (tsnsFrom (now (count .exit)) (now («n_bytes» .exit)) (now (dups .exit)) (now («dup_tsn» .exit)) (now (table .exit))) ≡ appliedToTsns (tsnsFrom (now (count .entry)) (now («n_bytes» .entry)) (now (dups .entry)) (now («dup_tsn» .entry)) (now (table .entry))) «cumulative_tsn» «new_cumulative_tsn» ⌝ }
 {
-    let queue = sctp_receive_tsns::of_counts(*count, *n_bytes, *dups);
+    let queue = sctp_receive_model::tsns::of_counts(*count, *n_bytes, *dups);
     let dropped = forward_tsn_drops::apply_to_tsns(
         queue,
         table,
@@ -26,7 +26,7 @@ pub fn apply_to_tsns(
         new_cumulative_tsn,
     );
     let left = dropped.queue;
-    sctp_receive_tsns::put_counts(left, count, n_bytes, dups);
+    sctp_receive_model::tsns::put_counts(left, count, n_bytes, dups);
     let answer = dropped.answer;
     match answer {
         Done::All => -1,

@@ -1,7 +1,7 @@
 // What the C calls of the TSN queue are made of: push, the fields that C keeps, put back, and the answers, taken apart: the values go through references,
 // 0 and false beside a refusal, and the result is -1 or the refusal's number.
 ghost use mathlib.Core.Path.{_≡_};
-ghost use Rattle.payload_model.specs.Queue.{after, rowOf, zeros, pushed};
+ghost use Rattle.payload_model.specs.Queue.{after, rowOf, pushed};
 ghost use Rattle.payload_model.specs.Log.{noted};
 ghost use Rattle.payload_model.specs.Answers.{flagTold, numberTold, takenTold};
 ghost use Rattle.sctp_receive_result.specs.Result.{told, back};
@@ -14,27 +14,8 @@ use payload_queue::Number;
 use payload_queue::PayloadQueue;
 use payload_queue::Taken;
 use payload_queue::WORDS;
-
-// The queue of the counts that C keeps, with a log of zeros: C's own log stays where it is, since only pop_duplicates looks at it.
-pub fn of_counts(count: usize, n_bytes: usize, dups: usize) -> PayloadQueue
-    ensures { λ r. ⌜ r ≡ tsnCounts count «n_bytes» dups zeros ⌝ }
-{
-    PayloadQueue {
-        count,
-        n_bytes,
-        dups,
-        dup_tsn: [0u32; LOG],
-    }
-}
-
-// The queue's counts, put back into the fields that C keeps.
-pub fn put_counts(queue: PayloadQueue, count: &mut usize, n_bytes: &mut usize, dups: &mut usize)
-    ensures { λ _. ⌜ tsnCounts (now (count .exit)) (now («n_bytes» .exit)) (now (dups .exit)) (queue .«dup_tsn») ≡ queue ⌝ }
-{
-    *count = queue.count;
-    *n_bytes = queue.n_bytes;
-    *dups = queue.dups;
-}
+pub use sctp_receive_model::tsns::of_counts;
+pub use sctp_receive_model::tsns::put_counts;
 
 // A TSN, put behind the first ones of the log where it now holds more than those.
 fn note(log: &mut [u32], at: usize, dups: usize, tsn: u32)

@@ -98,8 +98,18 @@ fn fill(
     print::with_number(b"Stream % holds ", stream as u64);
     held(now, table, pool, stream);
     print::text(b", one more: ");
-    let c = loose(stream, base + 90000);
-    let left = reassembly_streams::push(now, table, pool, stream, c, b"x");
+    push(now, table, pool, loose(stream, base + 90000), b"x")
+}
+
+// Pushes a chunk to its stream, and tells the answer.
+fn push(
+    streams: Streams,
+    table: &mut [u32; WORDS],
+    pool: &mut [u8; BYTES],
+    c: ChunkPayloadData,
+    user_data: &[u8],
+) -> Streams {
+    let left = reassembly_streams::push(streams, table, pool, c.stream_identifier, c, user_data);
     let answer = left.answer;
     told(answer);
     left.streams
@@ -112,38 +122,30 @@ fn message(
     pool: &mut [u8; BYTES],
     stream: u16,
 ) -> Streams {
-    let mut buffer = [0u8; 8];
     print::with_number(b"Stream %: ", stream as u64);
-    let last = reassembly_streams::push(
-        streams,
-        table,
-        pool,
-        stream,
-        chunk(stream, 7, false, false, true),
-        b"lo",
-    );
-    let answer = last.answer;
-    told(answer);
-    let first = reassembly_streams::push(
-        last.streams,
-        table,
-        pool,
-        stream,
-        chunk(stream, 6, false, true, false),
-        b"hel",
-    );
-    let answer = first.answer;
-    told(answer);
-    let taken = reassembly_streams::read(first.streams, table, pool, stream, &mut buffer);
+    let last = chunk(stream, 7, false, false, true);
+    let now = push(streams, table, pool, last, b"lo");
+    let first = chunk(stream, 6, false, true, false);
+    let now = push(now, table, pool, first, b"hel");
+    read(now, table, pool, stream)
+}
+
+// The next message of a stream.
+fn read(
+    streams: Streams,
+    table: &mut [u32; WORDS],
+    pool: &mut [u8; BYTES],
+    stream: u16,
+) -> Streams {
+    let mut buffer = [0u8; 8];
+    let taken = reassembly_streams::read(streams, table, pool, stream, &mut buffer);
     let answer = taken.answer;
     match answer {
-        Took::Message(m) => {
-            print::quoted(print::first(&buffer, m.size));
-            print::text(b"\n");
-        }
-        Took::Nothing => print::text(b"none\n"),
-        Took::Refused(number) => print::number_line(b"", number as u64),
+        Took::Message(m) => print::quoted(print::first(&buffer, m.size)),
+        Took::Nothing => print::text(b"none"),
+        Took::Refused(number) => print::number(number as u64),
     }
+    print::text(b"\n");
     taken.streams
 }
 

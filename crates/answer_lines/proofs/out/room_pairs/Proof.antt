@@ -1,0 +1,16 @@
+-- `answer_lines::out::room_pairs` is safe, and ends: the measure is what is left of the bytes. Assumes nothing.
+use Prim.Native.Nat.{_-_}
+use borrow.Author.Needs.{needs}
+use Rattle.answer_lines.proofs.out.room_pairs.Statement.{statement}
+use Rattle.answer_lines.proofs.out.room_pairs.Tie as tie
+
+abbrev Inv : tie.InvT-loop
+Inv out₀ at n at₀ i₀ out at' i = Unit {0}
+
+abbrev μ : tie.MeasureT-loop
+μ out₀ at n at₀ i₀ out at' i = n - i
+
+pub room-pairs-spec : {M : Type 1} → statement M
+room-pairs-spec =
+    tie.close
+    (tie.spec Inv μ (λ c. search needs) (λ c κs. search needs) (λ c κs. search needs) (λ c κs. search needs) (λ c. search needs) (λ c. search needs) (λ c. search needs) (λ c. search needs))
