@@ -16,7 +16,7 @@ use Rattle.moves.specs.Lists.{put}
 use Rattle.table.specs.Rows.{blank, total, some, upToLast, kept, shortLength, hasTsn, tsnBefore}
 use Rattle.table.specs.declared.Row.{Row}
 use Rattle.table.proofs.Columns.{rows-long}
-use Rattle.gap_report.specs.Gap.{tsnsOf}
+use Rattle.gap_model.specs.Gap.{tsnsOf}
 use Rattle.payload_model.specs.Limits.{tsnsMost}
 use Rattle.payload_model.specs.Queue.{staysAfter}
 use Rattle.payload_model.specs.Run.{Sane, Distinct}

@@ -3,7 +3,7 @@
 use mathlib.Core.List.{List, [], _∷_}
 use Prim.Native.Nat.{ℕ}
 use Rattle.table.specs.declared.Row.{Row}
-use Rattle.gap_report.specs.Gap.{tsnsOf}
+use Rattle.gap_model.specs.Gap.{tsnsOf}
 use Rattle.payload_model.specs.Run.{Sane}
 use Rattle.inflight_model.specs.Queue.{
   Queue,

@@ -15,8 +15,8 @@ use Rattle.serial.specs.Facts.{before-is, before-true}
 use Rattle.moves.specs.Lists.{put}
 use Rattle.table.specs.Rows.{some, upToLast, kept, hasTsn, tsnBefore}
 use Rattle.table.specs.declared.Row.{Row}
-use Rattle.gap_report.specs.Gap.{tsnsOf}
-use Rattle.gap_report.specs.Report.{InArc, Ordered}
+use Rattle.gap_model.specs.Gap.{tsnsOf}
+use Rattle.gap_model.specs.Report.{InArc, Ordered}
 use Rattle.payload_model.specs.Run.{Pairwise, Distinct}
 use Rattle.payload_model.proofs.Laws.{either}
 

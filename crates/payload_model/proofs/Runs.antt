@@ -20,8 +20,8 @@ use Rattle.table.specs.declared.Row.{Row}
 use Rattle.table.proofs.Columns.{rows-long}
 use Rattle.payload_model.specs.Limits.{tsnsMost, logMost}
 use Rattle.payload_model.specs.Queue.{Queue, held, unsound, After, Found, turnedAway, logged, stored, pushed, left, staysAfter, popped, poppedUpTo, zeros, poppedDuplicates, canPush, got, containsStream, counted, isEmpty, numBytes, lastTsn}
-use Rattle.gap_report.specs.Gap.{block, extend, walk, startsOf, endsOf, blocks, reported, written}
-use Rattle.gap_report.specs.Report.{InArc, Ordered}
+use Rattle.gap_model.specs.Gap.{block, extend, walk, startsOf, endsOf, blocks, reported, written}
+use Rattle.gap_model.specs.Report.{InArc, Ordered}
 use Rattle.payload_model.specs.GapCall.{lists, reportTold, gapReport}
 use Rattle.gap_model.specs.declared.Reported.{Reported}
 use Rattle.gap_model.specs.declared.Reported.the-variants.{Count, Short}

@@ -5,7 +5,7 @@ use mathlib.Core.Bool.{cond}
 use mathlib.Core.List.{List}
 use Rattle.wire.specs.Refusal.{none, refuse, Told, says}
 use Rattle.payload_model.specs.Queue.{Queue, held, unsound}
-use Rattle.gap_report.specs.Gap.{Report, reported}
+use Rattle.gap_model.specs.Gap.{Report, reported}
 use Rattle.gap_model.specs.declared.Reported.{Reported}
 use Rattle.gap_model.specs.declared.Reported.the-variants.{Count, Short}
 

@@ -24,8 +24,8 @@ use Rattle.payload_model.specs.Queue.{
   lastTsn,
   fresh,
 }
-use Rattle.gap_report.specs.Gap.{Block, tsnsOf, startsOf, endsOf}
-use Rattle.gap_report.specs.Report.{Proper, Covers, InArc}
+use Rattle.gap_model.specs.Gap.{Block, tsnsOf, startsOf, endsOf}
+use Rattle.gap_model.specs.Report.{Proper, Covers, InArc}
 use Rattle.payload_model.specs.GapCall.{lists, gapReport}
 
 -- ── runs ──

@@ -20,7 +20,7 @@ use Rattle.fragments.specs.Words.{size, joined, any, while, past, find, placed}
 use Rattle.fragment_sets.specs.Sets.{setOf, rises, complete, joins, grownSet, stored}
 use Rattle.loose_fragments.specs.Loose.{runs, run, reach, startsBy, scan}
 use Rattle.payload_model.specs.Queue as queue
-use Rattle.gap_report.specs.Gap as gap
+use Rattle.gap_model.specs.Gap as gap
 use Rattle.payload_model.specs.GapCall.{gapReport}
 use Rattle.chunks.specs.Message as hand
 use Rattle.reassembly_state.specs.Limits.{fragsMost, bytesMost}
