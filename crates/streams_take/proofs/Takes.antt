@@ -25,7 +25,7 @@ use Rattle.reassembly_state.specs.State.{count, counts}
 use Rattle.reassembly_state.specs.State as one
 use Rattle.reassembly_state.specs.Rows.{oldest, messageBy, Out, out, takenOut, withoutMessage}
 use Rattle.reassembly_state.specs.declared.Counts.{Counts}
-use Rattle.reassembly_take.proofs.Messages.{oldest-is}
+use Rattle.reassembly_turn.proofs.Messages.{oldest-is}
 use Rattle.streams_model.specs.State.{State, rowsHeld, fragments, queueOf, own, withOwn, reads, layTaken}
 use Rattle.streams_model.specs.Among.{amongNone, upTo, mine, rowsBefore, before, behind, among}
 use Rattle.streams_model.proofs.Laws.{Sound, fragments-length}

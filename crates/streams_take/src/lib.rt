@@ -39,11 +39,11 @@ fn in_turn(streams: Streams, table: &[u32], stream: usize, place: Among) -> Span
     let before = place.before;
     let from = before.rows;
     if 0 < own.finished {
-        let k = reassembly_take::oldest_finished(table, from, own.finished);
+        let k = reassembly_turn::oldest_finished(table, from, own.finished);
         return Span { from, to: from + k };
     }
     let first = from + own.unordered;
-    let run = reassembly_take::ready(place.queue, table);
+    let run = reassembly_turn::ready(place.queue, table);
     Span {
         from: first,
         to: first + run,
@@ -51,7 +51,7 @@ fn in_turn(streams: Streams, table: &[u32], stream: usize, place: Among) -> Span
 }
 
 // The streams without a message that came of one, and its answer.
-fn settle(streams: Streams, stream: usize, own: Counts, left: reassembly_take::Among) -> Taken
+fn settle(streams: Streams, stream: usize, own: Counts, left: reassembly_message::Among) -> Taken
     requires { ⌜ stream < streamsMost ⌝ }
     requires { ⌜ (tookTold (left .answer) .values .comes ≡ true → (left .size ≤ own .«n_bytes») × (left .k ≤ cond (ltb 0 (own .finished)) (own .finished) (own .ordered))) ⌝ }
     ensures { λ r. ⌜ tookTold (r .answer) ≡ tookTold (left .answer) ⌝ }
@@ -63,7 +63,7 @@ fn settle(streams: Streams, stream: usize, own: Counts, left: reassembly_take::A
             answer: Took::Message(hand),
             streams: streams.with(
                 stream,
-                reassembly_take::without(own, left.k, left.size, hand.ssn),
+                reassembly_turn::without(own, left.k, left.size, hand.ssn),
             ),
         },
         Took::Nothing => Taken {
@@ -104,7 +104,17 @@ fn take_run(
     let bytes = queue.n_bytes + behind.bytes;
     let off = fragments::sum_long(table, FRAGMENTS, 0, from);
     let ordered = own.finished == 0;
-    let left = reassembly_take::take_among(table, pool, buffer, held, bytes, from, k, off, ordered);
+    let left = reassembly_message::take_among(
+        table,
+        pool,
+        buffer,
+        held,
+        bytes,
+        from,
+        k,
+        off,
+        ordered,
+    );
     settle(streams, stream, own, left)
 }
 

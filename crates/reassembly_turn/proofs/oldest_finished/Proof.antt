@@ -1,4 +1,4 @@
--- `reassembly_take::oldest_finished` meets its contract: where no row has mark E the pass counts them all.
+-- `reassembly_turn::oldest_finished` meets its contract: where no row has mark E the pass counts them all.
 -- Assumes nothing.
 use borrow.Author.Needs.{needs}
 use native.Mathlib.Omega.{arith}
@@ -6,9 +6,9 @@ use lib.ListN.{drop}
 use Rattle.table.specs.Rows.{rowsOf}
 use Rattle.fragments.specs.Frag.{ends, ofRow}
 use Rattle.reassembly_state.specs.Limits.{fragsMost}
-use Rattle.reassembly_take.proofs.Turn.{ahead-front}
-use Rattle.reassembly_take.proofs.oldest_finished.Statement.{statement}
-use Rattle.reassembly_take.proofs.oldest_finished.Tie as tie
+use Rattle.reassembly_turn.proofs.Turn.{ahead-front}
+use Rattle.reassembly_turn.proofs.oldest_finished.Statement.{statement}
+use Rattle.reassembly_turn.proofs.oldest_finished.Tie as tie
 
 fits : tie.Need-add-end
 fits c =

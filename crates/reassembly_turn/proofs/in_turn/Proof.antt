@@ -1,4 +1,4 @@
--- `reassembly_take::in_turn` meets its contract: the oldest finished message comes first, and else the first ordered set.
+-- `reassembly_turn::in_turn` meets its contract: the oldest finished message comes first, and else the first ordered set.
 -- Assumes nothing.
 use mathlib.Core.Path.{_≡_}
 use mathlib.Core.List.{List}
@@ -9,9 +9,9 @@ use lib.ListN.{length}
 use Rattle.table.proofs.Columns.{rows-long}
 use Rattle.reassembly_state.specs.Limits.{fragsMost}
 use Rattle.reassembly_state.specs.State.{State, stateOf}
-use Rattle.reassembly_take.proofs.Turn.{finished-turn, ordered-turn}
-use Rattle.reassembly_take.proofs.in_turn.Statement.{statement}
-use Rattle.reassembly_take.proofs.in_turn.Tie as tie
+use Rattle.reassembly_turn.proofs.Turn.{finished-turn, ordered-turn}
+use Rattle.reassembly_turn.proofs.in_turn.Statement.{statement}
+use Rattle.reassembly_turn.proofs.in_turn.Tie as tie
 
 -- what is lent, beside a pool
 abbrev of : tie.Start → List ℕ → State

@@ -1,4 +1,4 @@
--- `reassembly_take::take_finished` meets its contract: the rows through the first E are the oldest message.
+-- `reassembly_message::take_finished` meets its contract: the rows through the first E are the oldest message.
 -- Assumes nothing.
 use mathlib.Core.Path.{_≡_, _∙_}
 use Prim.Native.Nat.{_≤_, _<_}
@@ -10,9 +10,9 @@ use Rattle.table.proofs.Columns.{rows-long}
 use Rattle.fragments.specs.Pool.{cut}
 use Rattle.reassembly_state.specs.Limits.{fragsMost}
 use Rattle.reassembly_state.specs.Rows.{oldest}
-use Rattle.reassembly_take.proofs.Messages.{oldest-is}
-use Rattle.reassembly_take.proofs.take_finished.Statement.{statement}
-use Rattle.reassembly_take.proofs.take_finished.Tie as tie
+use Rattle.reassembly_turn.proofs.Messages.{oldest-is}
+use Rattle.reassembly_message.proofs.take_finished.Statement.{statement}
+use Rattle.reassembly_message.proofs.take_finished.Tie as tie
 
 abbrev begun : tie.After-oldest-finished → tie.Start
 begun c = c .before .before .before .before .before

@@ -1,4 +1,4 @@
--- `reassembly_take::take_among` meets its contract: the run is measured, and where the buffer is long enough it is taken.
+-- `reassembly_message::take_among` meets its contract: the run is measured, and where the buffer is long enough it is taken.
 -- Assumes nothing.
 use mathlib.Core.List.{List}
 use Prim.Native.Nat.{_≤_}
@@ -9,9 +9,9 @@ use Rattle.table.specs.Rows.{rowsOf}
 use Rattle.table.specs.declared.Row.{Row}
 use Rattle.fragments.proofs.Pool.{B}
 use Rattle.reassembly_state.specs.Limits.{fragsMost}
-use Rattle.reassembly_take.proofs.Messages.{out-none, out-whole}
-use Rattle.reassembly_take.proofs.take_among.Statement.{statement}
-use Rattle.reassembly_take.proofs.take_among.Tie as tie
+use Rattle.reassembly_turn.proofs.Messages.{out-none, out-whole}
+use Rattle.reassembly_message.proofs.take_among.Statement.{statement}
+use Rattle.reassembly_message.proofs.take_among.Tie as tie
 
 abbrev rows : tie.Start → List Row
 rows s = rowsOf fragsMost (s .args .table .now)

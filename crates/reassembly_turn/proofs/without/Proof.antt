@@ -1,10 +1,10 @@
--- `reassembly_take::without` meets its contract: the counts go down where the message stood.
+-- `reassembly_turn::without` meets its contract: the counts go down where the message stood.
 -- Assumes nothing.
 use borrow.Author.Needs.{needs}
 use borrow.Author.Tests.{lt-ltb, le-ltb, eq-eqb, ne-eqb}
 use Rattle.reassembly_state.specs.Rows.{withoutMessage}
-use Rattle.reassembly_take.proofs.without.Statement.{statement}
-use Rattle.reassembly_take.proofs.without.Tie as tie
+use Rattle.reassembly_turn.proofs.without.Statement.{statement}
+use Rattle.reassembly_turn.proofs.without.Tie as tie
 
 sub-finished : tie.Need-sub-left-2
 sub-finished c =

@@ -32,7 +32,7 @@ use Rattle.reassembly_state.specs.State.{State, count, fragments, view, counts,
 use Rattle.reassembly_state.specs.Rows.{firstOrdered, orderedRows, InTurn, messageBy, withoutMessage}
 use Rattle.reassembly_state.specs.declared.Counts.{Counts}
 use Rattle.reassembly_state.proofs.Parts.{drop-take, gone-first, gone-last}
-use Rattle.reassembly_take.proofs.Messages.{first, run-cons, run-size}
+use Rattle.reassembly_turn.proofs.Messages.{first, run-cons, run-size}
 use Rattle.reassembly_state.proofs.Laws.{Sound, held-view, fragments-length, finished-length, unordered-length, ordered-length, finished-cut, ordered-cut, size-held, lay-own}
 
 pub ahead-front : (p : Row → Bool) (n : ℕ) (rows : List Row) → aheadOf p (take n rows) ≤ n

@@ -1,4 +1,4 @@
--- `reassembly_take::ready` meets its contract: the rows of the first SSN are the first ordered set, and the passes over them say whether it can be taken.
+-- `reassembly_turn::ready` meets its contract: the rows of the first SSN are the first ordered set, and the passes over them say whether it can be taken.
 -- Assumes nothing.
 use mathlib.Core.Path.{_≡_, refl, sym, _∙_}
 use mathlib.Core.Bool.{Bool, true, false, cond}
@@ -14,9 +14,9 @@ use Rattle.fragment_sets.specs.Sets.{otherSsn}
 use Rattle.reassembly_state.specs.Limits.{fragsMost}
 use Rattle.reassembly_state.specs.Model.{readySet}
 use Rattle.reassembly_state.specs.State.{State, stateOf, view}
-use Rattle.reassembly_take.proofs.Turn.{ahead-front, ready-none, ready-is}
-use Rattle.reassembly_take.proofs.ready.Statement.{statement}
-use Rattle.reassembly_take.proofs.ready.Tie as tie
+use Rattle.reassembly_turn.proofs.Turn.{ahead-front, ready-none, ready-is}
+use Rattle.reassembly_turn.proofs.ready.Statement.{statement}
+use Rattle.reassembly_turn.proofs.ready.Tie as tie
 
 -- what is lent, beside a pool
 abbrev of : tie.Start → List ℕ → State
