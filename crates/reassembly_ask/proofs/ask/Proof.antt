@@ -1,4 +1,4 @@
--- `reassembly_ordered::ask` meets its contract: the passes find the set, and the four questions are asked in their order.
+-- `reassembly_ask::ask` meets its contract: the passes find the set, and the four questions are asked in their order.
 -- Assumes nothing.
 use mathlib.Core.Path.{_≡_, sym, _∙_}
 use mathlib.Core.List.{List, []}
@@ -12,9 +12,9 @@ use Rattle.reassembly_state.specs.Limits.{fragsMost}
 use Rattle.reassembly_state.specs.State.{State, stateOf, count}
 use Rattle.reassembly_state.specs.Rows.{firstOrdered, setAt, setRun}
 use Rattle.reassembly_state.proofs.Laws.{sound}
-use Rattle.reassembly_ordered.proofs.Sets.{ahead-fits, run-fits, set-found, asks-large, asks-old, asks-again, asks-crowded, asks-kept, told-so}
-use Rattle.reassembly_ordered.proofs.ask.Statement.{statement}
-use Rattle.reassembly_ordered.proofs.ask.Tie as tie
+use Rattle.reassembly_ask.proofs.Sets.{ahead-fits, run-fits, set-found, asks-large, asks-old, asks-again, asks-crowded, asks-kept, told-so}
+use Rattle.reassembly_ask.proofs.ask.Statement.{statement}
+use Rattle.reassembly_ask.proofs.ask.Tie as tie
 
 -- what is lent, beside a pool
 abbrev of : tie.Start → List ℕ → State

@@ -1,4 +1,4 @@
--- `reassembly_ordered::too_large` meets its contract: the set has no more bytes than are held, and where these might be too many, it is measured.
+-- `reassembly_ask::too_large` meets its contract: the set has no more bytes than are held, and where these might be too many, it is measured.
 -- Assumes nothing.
 use mathlib.Core.Path.{sym, ap, _∙_}
 use Prim.Native.Nat.{ℕ, _+_}
@@ -7,9 +7,9 @@ use borrow.Author.Tests.{not-true}
 use lib.Dec.{ltb}
 use Rattle.table.specs.Rows.{rowsOf}
 use Rattle.reassembly_state.specs.Limits.{fragsMost}
-use Rattle.reassembly_ordered.proofs.Sets.{not-large}
-use Rattle.reassembly_ordered.proofs.too_large.Statement.{statement}
-use Rattle.reassembly_ordered.proofs.too_large.Tie as tie
+use Rattle.reassembly_ask.proofs.Sets.{not-large}
+use Rattle.reassembly_ask.proofs.too_large.Statement.{statement}
+use Rattle.reassembly_ask.proofs.too_large.Tie as tie
 
 quick : tie.Need-returns
 quick c =
