@@ -8,9 +8,6 @@ ghost use Rattle.reassembly_bounded.specs.Bounded.{forwardBounded};
 ghost use Rattle.reassembly_applicable.specs.Applicable.{applicable};
 ghost use Rattle.reassembly_applicable.specs.Answers.{applicableTold};
 ghost use Rattle.reassembly_queue.specs.Queue.{countsOf, structOf, stateOf, fresh};
-
-mod push;
-
 use chunk_payload_data::ChunkPayloadData;
 use chunks::Flag;
 use chunks::Number;
@@ -106,7 +103,7 @@ impl ReassemblyQueue {
     ) -> Pushed
         ensures { λ r. ⌜ after (flagTold (r .answer)) (stateOf (r .queue) (now (table .exit)) (now (pool .exit))) ≡ pushed (stateOf self (now (table .entry)) (now (pool .entry))) chunk (now («user_data» .entry)) ⌝ }
     {
-        let left = push::push(self.counts(), table, pool, chunk, user_data);
+        let left = reassembly_push::push(self.counts(), table, pool, chunk, user_data);
         let answer = left.answer;
         Pushed {
             answer,

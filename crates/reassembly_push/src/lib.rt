@@ -10,7 +10,7 @@ use reassembly_state::WORDS;
 use reassembly_state::room;
 
 // Refused where the counts are unsound, false where the chunk is of another stream; else by its mark U.
-pub(crate) fn push(
+pub fn push(
     counts: Counts,
     table: &mut [u32; WORDS],
     pool: &mut [u8],

@@ -1,4 +1,4 @@
--- `reassembly_queue::push::push` meets its contract: an unsound queue is refused, another stream is answered false, and else the chunk goes by its mark U.
+-- `reassembly_push::push` meets its contract: an unsound queue is refused, another stream is answered false, and else the chunk goes by its mark U.
 -- Assumes nothing.
 use mathlib.Core.Path.{_≡_, sym, _∙_}
 use mathlib.Core.Bool.{false}
@@ -10,9 +10,9 @@ use Rattle.reassembly_state.specs.Limits.{fragsMost}
 use Rattle.reassembly_state.specs.State.{State, stateOf, unsound, pushed}
 use Rattle.reassembly_state.specs.Rows.{fitsIf}
 use Rattle.reassembly_state.proofs.Laws.{sound}
-use Rattle.reassembly_queue.proofs.Pushes.{room-fits, push-other, push-unordered, push-ordered}
-use Rattle.reassembly_queue.proofs.push.push.Statement.{statement}
-use Rattle.reassembly_queue.proofs.push.push.Tie as tie
+use Rattle.reassembly_push.proofs.Pushes.{room-fits, push-other, push-unordered, push-ordered}
+use Rattle.reassembly_push.proofs.push.Statement.{statement}
+use Rattle.reassembly_push.proofs.push.Tie as tie
 
 -- the queue that is lent, and that it is sound
 abbrev of : tie.Else1 → State
