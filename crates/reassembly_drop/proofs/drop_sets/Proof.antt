@@ -1,4 +1,4 @@
--- `reassembly_forward::drop_sets` meets its contract: after each set those that stay of the passed ones stand at the front.
+-- `reassembly_drop::drop_sets` meets its contract: after each set those that stay of the passed ones stand at the front.
 -- Assumes nothing.
 use mathlib.Core.Path.{_≡_, refl, sym, _∙_}
 use Prim.Native.Nat.{_+_, _*_, _-_, _≤_, _<_}
@@ -11,8 +11,8 @@ use Rattle.reassembly_state.specs.State.{State, stateOf, count}
 use Rattle.reassembly_state.proofs.Laws.{Sound, sound}
 use Rattle.set_reach.specs.Kept.{dropped}
 use Rattle.set_reach.proofs.Skip.{Skip, dropped-blind, skip-none, skip-set, skip-bytes, skip-goes, skip-stays, skip-pool, skip-all}
-use Rattle.reassembly_forward.proofs.drop_sets.Statement.{statement}
-use Rattle.reassembly_forward.proofs.drop_sets.Tie as tie
+use Rattle.reassembly_drop.proofs.drop_sets.Statement.{statement}
+use Rattle.reassembly_drop.proofs.drop_sets.Tie as tie
 
 abbrev Inv : tie.InvT-loop
 Inv queue table₀ pool₀ last-ssn bounded tsn from held at₀ off₀ kept₀ bytes₀ table pool at off kept bytes =

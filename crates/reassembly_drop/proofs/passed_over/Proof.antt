@@ -1,4 +1,4 @@
--- `reassembly_forward::passed_over` meets its contract: its tests are those of the promise, in their order.
+-- `reassembly_drop::passed_over` meets its contract: its tests are those of the promise, in their order.
 -- Assumes nothing.
 use mathlib.Core.Path.{_≡_, sym, _∙_}
 use native.Mathlib.Omega.{arith}
@@ -13,8 +13,8 @@ use Rattle.fragment_sets.specs.Sets.{setUpTo}
 use Rattle.reassembly_state.specs.Limits.{fragsMost}
 use Rattle.set_reach.proofs.Passing.{first-up-to}
 use Rattle.set_reach.proofs.Skip.{dropped-missing, dropped-free}
-use Rattle.reassembly_forward.proofs.passed_over.Statement.{statement}
-use Rattle.reassembly_forward.proofs.passed_over.Tie as tie
+use Rattle.reassembly_drop.proofs.passed_over.Statement.{statement}
+use Rattle.reassembly_drop.proofs.passed_over.Tie as tie
 
 -- the SSN of the first row is that of the set
 up-to : (t : tie.After-sna16lte) → let s = t .before .before .before .before in setUpTo (s .args .last-ssn) (map bare (take (s .args .k) (drop (s .args .at) (rowsOf fragsMost (s .args .table .now))))) ≡ t .sna16lte .result
