@@ -32,9 +32,9 @@ use Rattle.streams_model.proofs.Laws.{Sound, fragments-length}
 use Rattle.streams_model.proofs.Among.{rows-split, whole, before-length, own-length, own-bytes, own-counts, own-is, among-none-view, put-back}
 use Rattle.streams_model.proofs.Front.{own-again}
 use Rattle.streams_model.proofs.Left.{stands}
-use Rattle.streams_take.specs.Turned.{firstOf, Turned}
-use Rattle.streams_take.proofs.Turns as turns
-use Rattle.streams_take.proofs.Turns.{Stands, ready-front}
+use Rattle.streams_turn.specs.Turned.{firstOf, Turned}
+use Rattle.streams_turn.proofs.Turns as turns
+use Rattle.streams_turn.proofs.Turns.{Stands, ready-front}
 
 -- something taken out of a list that stands between two others
 gone-between : {A : Type 0} (P O R : List A) (i k : ℕ) → i + k ≤ length O → gone (length P + i) k (P ++ (O ++ R)) ≡ P ++ (gone i k O ++ R)

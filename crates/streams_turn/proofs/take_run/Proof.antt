@@ -1,4 +1,4 @@
--- `streams_take::take_run` meets its contract: the message goes out of all that is held, and the stream's counts are those without it.
+-- `streams_turn::take_run` meets its contract: the message goes out of all that is held, and the stream's counts are those without it.
 -- Assumes nothing.
 use mathlib.Core.Path.{_≡_, refl, sym, ap, _∙_}
 use mathlib.Core.Bool.{Bool, true, false}
@@ -22,15 +22,15 @@ use Rattle.reassembly_state.specs.Model.{turn, taken}
 use Rattle.reassembly_state.specs.Answers.{tookTold}
 use Rattle.streams_model.proofs.Laws.{Sound, sound, sums-total, bytes-bounded}
 use Rattle.streams_model.proofs.Among.{rows-split, bytes-split}
-use Rattle.streams_take.specs.Turned.{Turned}
+use Rattle.streams_turn.specs.Turned.{Turned}
 use Rattle.table.specs.Rows.{rowsOf}
 use Rattle.fragments.specs.Pool.{cut}
 use Rattle.reassembly_state.specs.Rows.{out, takenOut}
 use Rattle.streams_model.specs.State.{fragments}
-use Rattle.streams_take.proofs.Asked.{fits-own}
-use Rattle.streams_take.proofs.Takes.{run-within, message-fits, settled}
-use Rattle.streams_take.proofs.take_run.Statement.{statement}
-use Rattle.streams_take.proofs.take_run.Tie as tie
+use Rattle.streams_turn.proofs.Asked.{fits-own}
+use Rattle.streams_turn.proofs.Takes.{run-within, message-fits, settled}
+use Rattle.streams_turn.proofs.take_run.Statement.{statement}
+use Rattle.streams_turn.proofs.take_run.Tie as tie
 
 -- what is lent
 abbrev of : tie.Start → State

@@ -1,4 +1,4 @@
--- `streams_take::settle` meets its contract: where a message came the counts of its stream are those without it, else nothing changes.
+-- `streams_turn::settle` meets its contract: where a message came the counts of its stream are those without it, else nothing changes.
 -- Assumes nothing.
 use mathlib.Core.Path.{_≡_, refl, sym, ap, _∙_}
 use mathlib.Core.List.{List}
@@ -9,9 +9,9 @@ use Rattle.reassembly_state.specs.Model.{Message, noMessage}
 use Rattle.reassembly_state.specs.Answers.{messageHeld, tookTold}
 use Rattle.reassembly_state.specs.declared.Counts.{Counts}
 use Rattle.streams_model.specs.Shape.{queuesOf}
-use Rattle.streams_take.proofs.Asked.{came-set, came, came-none}
-use Rattle.streams_take.proofs.settle.Statement.{statement}
-use Rattle.streams_take.proofs.settle.Tie as tie
+use Rattle.streams_turn.proofs.Asked.{came-set, came, came-none}
+use Rattle.streams_turn.proofs.settle.Statement.{statement}
+use Rattle.streams_turn.proofs.settle.Tie as tie
 
 abbrev start : tie.After-answer → tie.Start
 start c = c .before .before

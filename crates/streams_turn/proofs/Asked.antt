@@ -17,7 +17,7 @@ use Rattle.reassembly_state.specs.declared.Counts.{Counts}
 use Rattle.reassembly_state.specs.Model.{Message, noMessage, turn, readable, taken}
 use Rattle.streams_model.specs.Limits.{streamsMost}
 use Rattle.streams_model.specs.State.{State, unsound, own, reads, layTaken, read, isReadable}
-use Rattle.streams_take.specs.Turned.{Turned}
+use Rattle.streams_turn.specs.Turned.{Turned}
 
 module _ (s : State) (j : ℕ) where
   pub look-unsound : unsound s ≡ true → says (refuse 0) false ≡ isReadable s j

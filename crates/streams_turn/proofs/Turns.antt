@@ -22,7 +22,7 @@ use Rattle.reassembly_state.specs.State.{counts}
 use Rattle.reassembly_state.specs.Rows.{withoutMessage}
 use Rattle.reassembly_state.specs.declared.Counts.{Counts}
 use Rattle.reassembly_state.proofs.Parts.{gone-first, gone-last}
-use Rattle.streams_take.specs.Turned.{firstOf}
+use Rattle.streams_turn.specs.Turned.{firstOf}
 
 -- ── fronts ──
 

@@ -1,4 +1,4 @@
--- `streams_take::in_turn` meets its contract: the oldest finished message stands right behind those before the stream, the first set behind the loose ones.
+-- `streams_turn::in_turn` meets its contract: the oldest finished message stands right behind those before the stream, the first set behind the loose ones.
 -- Assumes nothing.
 use mathlib.Core.Path.{_≡_, refl, sym, ap, _∙_}
 use mathlib.Core.Bool.{Bool, true, false}
@@ -16,9 +16,9 @@ use Rattle.streams_model.specs.Shape.{queuesOf}
 use Rattle.streams_model.specs.State.{State, stateOf, rowsHeld, bytesSaid, unsound, own}
 use Rattle.streams_model.specs.Among.{Others, amongNone, mine, rowsBefore}
 use Rattle.streams_model.proofs.Laws.{sound, summed-split}
-use Rattle.streams_take.proofs.Takes.{finished-found, ordered-turned}
-use Rattle.streams_take.proofs.in_turn.Statement.{statement}
-use Rattle.streams_take.proofs.in_turn.Tie as tie
+use Rattle.streams_turn.proofs.Takes.{finished-found, ordered-turned}
+use Rattle.streams_turn.proofs.in_turn.Statement.{statement}
+use Rattle.streams_turn.proofs.in_turn.Tie as tie
 
 sized : (c : tie.Start) → length (c .args .table .now) ≡ 4 * fragsMost
 sized c = search needs

@@ -1,4 +1,4 @@
--- `streams_take::take` meets its contract: where there is a message in turn it is taken.
+-- `streams_turn::take` meets its contract: where there is a message in turn it is taken.
 -- Assumes nothing.
 use mathlib.Core.Path.{_≡_, refl, sym, ap, _∙_}
 use mathlib.Core.Bool.{Bool, true, false}
@@ -17,10 +17,10 @@ use Rattle.streams_model.specs.State.{State, stateOf, rowsHeld, bytesSaid, unso
 use Rattle.streams_model.specs.Among.{Others, amongNone, mine, rowsBefore}
 use Rattle.reassembly_state.specs.Model.{turn, taken}
 use Rattle.streams_model.proofs.Laws.{Sound, sound, bytes-bounded}
-use Rattle.streams_take.specs.Turned.{Turned}
-use Rattle.streams_take.proofs.Takes.{takes-nothing}
-use Rattle.streams_take.proofs.take.Statement.{statement}
-use Rattle.streams_take.proofs.take.Tie as tie
+use Rattle.streams_turn.specs.Turned.{Turned}
+use Rattle.streams_turn.proofs.Takes.{takes-nothing}
+use Rattle.streams_turn.proofs.take.Statement.{statement}
+use Rattle.streams_turn.proofs.take.Tie as tie
 
 -- what is lent
 abbrev of : tie.Start → State
