@@ -1,4 +1,4 @@
--- `streams_counts::has_room` meets its contract: after i turns the draws are those of the first i streams, one of which holds more.
+-- `streams_room::has_room` meets its contract: after i turns the draws are those of the first i streams, one of which holds more.
 -- Assumes nothing.
 use mathlib.Core.Path.{_≡_, refl, sym, ap, _∙_}
 use mathlib.Core.Bool.{Bool, true, false, cond}
@@ -14,9 +14,9 @@ use Rattle.reassembly_state.specs.declared.Counts.{Counts}
 use Rattle.streams_model.specs.Shape.{queuesOf, noCounts}
 use Rattle.streams_model.specs.State.{summed, bytesOf}
 use Rattle.streams_model.proofs.Laws.{summed-at}
-use Rattle.streams_counts.proofs.Counting.{Drawn, drawn-none, drawn-next, too-much, no-room, room-decides}
-use Rattle.streams_counts.proofs.has_room.Statement.{statement}
-use Rattle.streams_counts.proofs.has_room.Tie as tie
+use Rattle.streams_room.proofs.Drawing.{Drawn, drawn-none, drawn-next, too-much, no-room, room-decides}
+use Rattle.streams_room.proofs.has_room.Statement.{statement}
+use Rattle.streams_room.proofs.has_room.Tie as tie
 
 abbrev Inv : tie.InvT-loop
 Inv streams stream more frags₀ bytes₀ i₀ frags bytes i = Drawn (queuesOf streams) stream more frags bytes i

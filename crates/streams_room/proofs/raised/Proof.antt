@@ -1,10 +1,10 @@
--- `streams_counts::raised` meets its contract: the two numbers are compared.
+-- `streams_room::raised` meets its contract: the two numbers are compared.
 -- Assumes nothing.
 use borrow.Author.Needs.{needs}
 use borrow.Author.Tests.{eq-eqb, ne-eqb}
 use native.Mathlib.Omega.{arith}
-use Rattle.streams_counts.proofs.raised.Statement.{statement}
-use Rattle.streams_counts.proofs.raised.Tie as tie
+use Rattle.streams_room.proofs.raised.Statement.{statement}
+use Rattle.streams_room.proofs.raised.Tie as tie
 
 own : tie.Need-returns
 own c = rw (eq-eqb _ _ (c .if1 .taken))
