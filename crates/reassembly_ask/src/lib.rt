@@ -13,9 +13,9 @@ ghost use Rattle.reassembly_state.specs.State.{stateOf, unsound, count};
 ghost use Rattle.reassembly_state.specs.Rows.{Asks};
 use chunk_payload_data::ChunkPayloadData;
 use chunks::Flag;
+use reassembly_parts::room;
 use reassembly_state::Counts;
 use reassembly_state::FRAGMENTS;
-use reassembly_state::room;
 
 // Whether the set of run rows at index at is above the maximum with so many bytes more. Where all that is held is not, it is not.
 fn too_large(queue: Counts, table: &[u32], at: usize, run: usize, more: usize) -> bool

@@ -10,11 +10,11 @@ ghost use Rattle.reassembly_state.specs.State.{stateOf, unsound, count, view, a
 ghost use Rattle.reassembly_state.specs.Rows.{setAt, setRun, fitsIf};
 use chunk_payload_data::ChunkPayloadData;
 use chunks::Flag;
+use reassembly_parts::record;
+use reassembly_parts::room;
 use reassembly_state::Counts;
 use reassembly_state::FRAGMENTS;
 use reassembly_state::Pushed;
-use reassembly_state::record;
-use reassembly_state::room;
 
 // The first fragment of a set, which goes to its place by SSN.
 fn new_set(

@@ -4,10 +4,10 @@ ghost use Rattle.chunks.specs.Message.{flagTold};
 ghost use Rattle.reassembly_state.specs.State.{stateOf, after, pushed};
 use chunk_payload_data::ChunkPayloadData;
 use chunks::Flag;
+use reassembly_parts::room;
 use reassembly_state::Counts;
 use reassembly_state::Pushed;
 use reassembly_state::WORDS;
-use reassembly_state::room;
 
 // Refused where the counts are unsound, false where the chunk is of another stream; else by its mark U.
 pub fn push(

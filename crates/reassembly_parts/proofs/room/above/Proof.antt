@@ -1,12 +1,12 @@
--- `reassembly_state::room::above` meets its contract: where the held bytes alone are above the maximum so is the sum, else what is left of it is compared.
+-- `reassembly_parts::room::above` meets its contract: where the held bytes alone are above the maximum so is the sum, else what is left of it is compared.
 -- Assumes nothing.
 use mathlib.Core.Path.{sym}
 use Prim.Native.Nat.{_+_}
 use native.Mathlib.Omega.{arith}
 use borrow.Author.Tests.{lt-ltb}
 use Rattle.reassembly_state.proofs.Laws.{above-left}
-use Rattle.reassembly_state.proofs.room.above.Statement.{statement}
-use Rattle.reassembly_state.proofs.room.above.Tie as tie
+use Rattle.reassembly_parts.proofs.room.above.Statement.{statement}
+use Rattle.reassembly_parts.proofs.room.above.Tie as tie
 
 alone : tie.Need-returns
 alone c = let a = c .before .args in sym (lt-ltb (a .max) (a .held + a .more) (omega arith))

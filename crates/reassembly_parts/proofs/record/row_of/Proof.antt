@@ -1,9 +1,9 @@
--- `reassembly_state::record::row_of` meets its contract: each word is put together as the row says.
+-- `reassembly_parts::record::row_of` meets its contract: each word is put together as the row says.
 -- Assumes nothing.
 use borrow.Author.Needs.{needs}
 use Rattle.chunk_payload_data.specs.Data.{dataSent}
-use Rattle.reassembly_state.proofs.record.row_of.Statement.{statement}
-use Rattle.reassembly_state.proofs.record.row_of.Tie as tie
+use Rattle.reassembly_parts.proofs.record.row_of.Statement.{statement}
+use Rattle.reassembly_parts.proofs.record.row_of.Tie as tie
 
 returns : tie.Need-returns
 unfolding dataSent

@@ -3,13 +3,13 @@ ghost use mathlib.Core.Path.{_≡_};
 ghost use mathlib.Core.Bool.{_&&_};
 ghost use Prim.Native.Nat.{_+_, _≤_};
 ghost use lib.Dec.{ltb, leb};
 ghost use Rattle.reassembly_state.specs.Limits.{fragsMost, bytesMost};
 ghost use Rattle.reassembly_state.specs.State.{count};
-use crate::BYTES;
-use crate::Counts;
-use crate::FRAGMENTS;
-use crate::Pushed;
 use chunks::Flag;
+use reassembly_state::BYTES;
+use reassembly_state::Counts;
+use reassembly_state::FRAGMENTS;
+use reassembly_state::Pushed;
 
 // Whether so many bytes and so many more are above the maximum. The sum itself might not fit.
 pub fn above(max: u32, held: usize, more: usize) -> bool

@@ -1,14 +1,14 @@
--- `reassembly_state::room::has_room` meets its contract: the fragments are counted first, then the bytes.
+-- `reassembly_parts::room::has_room` meets its contract: the fragments are counted first, then the bytes.
 -- Assumes nothing.
 use mathlib.Core.Bool.{and-false}
 use Prim.Native.Nat.{_+_}
 use native.Mathlib.Omega.{arith}
 use borrow.Author.Tests.{le-leb, lt-leb}
 use Rattle.reassembly_state.specs.Limits.{fragsMost, bytesMost}
 use Rattle.reassembly_state.specs.State.{count}
 use Rattle.reassembly_state.proofs.Laws.{within-left}
-use Rattle.reassembly_state.proofs.room.has_room.Statement.{statement}
-use Rattle.reassembly_state.proofs.room.has_room.Tie as tie
+use Rattle.reassembly_parts.proofs.room.has_room.Statement.{statement}
+use Rattle.reassembly_parts.proofs.room.has_room.Tie as tie
 
 crowded : tie.Need-returns
 crowded c = let q = c .before .before .before .args .queue in rw (lt-leb (count q + 1) fragsMost (omega arith))
