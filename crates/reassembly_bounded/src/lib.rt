@@ -84,7 +84,7 @@ pub fn skip_bounded(
 {
     let from = counts.finished + counts.unordered;
     let next = limit(table, from, counts.ordered, last_ssn, new_cumulative_tsn);
-    let mut queue = reassembly_forward::drop_sets(
+    let mut queue = reassembly_drop::drop_sets(
         counts,
         table,
         pool,

@@ -8,9 +8,6 @@ ghost use Rattle.reassembly_bounded.specs.Bounded.{forwardBounded};
 ghost use Rattle.reassembly_applicable.specs.Applicable.{applicable};
 ghost use Rattle.reassembly_applicable.specs.Answers.{applicableTold};
 ghost use Rattle.reassembly_queue.specs.Queue.{countsOf, structOf, stateOf, fresh};
-
-mod push;
-
 use chunk_payload_data::ChunkPayloadData;
 use chunks::Flag;
 use chunks::Number;
@@ -106,7 +103,7 @@ impl ReassemblyQueue {
     ) -> Pushed
         ensures { λ r. ⌜ after (flagTold (r .answer)) (stateOf (r .queue) (now (table .exit)) (now (pool .exit))) ≡ pushed (stateOf self (now (table .entry)) (now (pool .entry))) chunk (now («user_data» .entry)) ⌝ }
     {
-        let left = push::push(self.counts(), table, pool, chunk, user_data);
+        let left = reassembly_push::push(self.counts(), table, pool, chunk, user_data);
         let answer = left.answer;
         Pushed {
             answer,
@@ -118,7 +115,7 @@ impl ReassemblyQueue {
     pub fn is_readable(self, table: &[u32; WORDS], pool: &[u8]) -> Flag
         ensures { λ r. ⌜ flagTold r ≡ isReadable (stateOf self (now (table .entry)) (now (pool .entry))) ⌝ }
     {
-        reassembly_take::is_readable(self.counts(), table, pool)
+        reassembly_turn::is_readable(self.counts(), table, pool)
     }
 
     // Takes the oldest finished unordered message, else the first ordered set if it is complete and not after the expected one, to the front

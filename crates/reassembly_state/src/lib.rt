@@ -6,10 +6,6 @@ ghost use lib.ListN.{length};
 ghost use Rattle.reassembly_state.specs.Limits.{fragsMost};
 ghost use Rattle.chunks.specs.Message.{numberTold};
 ghost use Rattle.reassembly_state.specs.State.{stateOf, unsound, numBytes};
-
-pub mod record;
-pub mod room;
-
 use chunks::Chunks;
 use chunks::Flag;
 use chunks::Number;

@@ -13,11 +13,11 @@ ghost use Rattle.reassembly_state.specs.State.{stateOf, unsound, count, view, l
 ghost use Rattle.reassembly_state.specs.Rows.{fitsIf, neighbours, storedLoose, settled};
 use chunk_payload_data::ChunkPayloadData;
 use chunks::Flag;
+use reassembly_parts::record;
+use reassembly_parts::room;
 use reassembly_state::Counts;
 use reassembly_state::FRAGMENTS;
 use reassembly_state::Pushed;
-use reassembly_state::record;
-use reassembly_state::room;
 
 // How many bytes the message that an unordered chunk belongs to has besides its own.
 fn reach(queue: Counts, table: &[u32], chunk: ChunkPayloadData) -> usize

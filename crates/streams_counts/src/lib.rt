@@ -1,23 +1,16 @@
-// What every call on eight streams asks of their counts: how much stands before a stream and behind it, whether they are sound, whether there is room.
+// What every call on eight streams asks of their counts: how much stands before a stream and behind it, whether they are sound.
 ghost use mathlib.Core.Path.{_≡_};
-ghost use mathlib.Core.Bool.{_&&_, cond};
-ghost use mathlib.Core.List.{map};
-ghost use Prim.Native.Nat.{suc, _+_, _-_, _*_, _^_, _≤_, _<_};
-ghost use lib.Dec.{ltb, leb, eqb};
+ghost use Prim.Native.Nat.{suc, _-_, _*_, _≤_, _<_};
+ghost use lib.Dec.{ltb};
 ghost use lib.ListN.{length, take, drop};
 ghost use Rattle.reassembly_state.specs.Limits.{fragsMost};
 ghost use Rattle.reassembly_state.specs.State.{count};
-ghost use Rattle.streams_model.specs.Limits.{streamsMost, ownFrags, ownBytes, commonFrags, commonBytes};
+ghost use Rattle.streams_model.specs.Limits.{streamsMost};
 ghost use Rattle.streams_model.specs.Shape.{queuesOf};
-ghost use Rattle.streams_model.specs.Room.{draws, raised};
-ghost use Rattle.streams_model.specs.State.{stateOf, rowsHeld, bytesSaid, bytesOf, unsound};
+ghost use Rattle.streams_model.specs.State.{stateOf, rowsHeld, bytesSaid, unsound};
 use reassembly_state::BYTES;
 use reassembly_state::Counts;
 use reassembly_state::FRAGMENTS;
-use streams_model::COMMON_BYTES;
-use streams_model::COMMON_FRAGMENTS;
-use streams_model::OWN_BYTES;
-use streams_model::OWN_FRAGMENTS;
 use streams_model::STREAMS;
 use streams_model::Streams;
 
@@ -110,57 +103,4 @@ pub fn unsound(streams: Streams, table: &[u32], pool: &[u8]) -> bool
         return true;
     }
     room < bytes
-}
-
-// What a stream that holds n draws on the common part, where so many are its own.
-fn draw(n: usize, own: usize) -> usize
-    ensures { λ r. ⌜ r ≡ n - own ⌝ }
-{
-    if n < own {
-        return 0;
-    }
-    n - own
-}
-
-// What stream i holds with so much more of one stream.
-fn raised(n: usize, more: usize, i: usize, stream: usize) -> usize
-    requires { ⌜ n + more < 2 ^ 64 ⌝ }
-    ensures { λ r. ⌜ r ≡ cond (eqb i stream) (n + more) n ⌝ }
-{
-    if i == stream {
-        return n + more;
-    }
-    n
-}
-
-// Whether there is room for one more fragment of a stream, of so many bytes: the streams' draws with it are within the common part.
-pub fn has_room(streams: Streams, stream: usize, more: usize) -> bool
-    requires { ⌜ stream < streamsMost ⌝ }
-    requires { ⌜ rowsHeld (queuesOf streams) ≤ fragsMost ⌝ }
-    requires { ⌜ bytesSaid (queuesOf streams) ≤ 16777216 * fragsMost ⌝ }
-    ensures { λ r. ⌜ r ≡ (leb (draws ownFrags (raised stream 1 (map count (queuesOf streams)))) commonFrags && leb (draws ownBytes (raised stream more (map bytesOf (queuesOf streams)))) commonBytes) ⌝ }
-{
-    if BYTES < more {
-        return false;
-    }
-    let mut frags: usize = 0;
-    let mut bytes: usize = 0;
-    let mut i: usize = 0;
-    while i < STREAMS {
-        let queue = streams.at(i);
-        let n = raised(
-            queue.finished + (queue.unordered + queue.ordered),
-            1,
-            i,
-            stream,
-        );
-        let size = raised(queue.n_bytes, more, i, stream);
-        i += 1;
-        frags += draw(n, OWN_FRAGMENTS);
-        bytes += draw(size, OWN_BYTES);
-    }
-    if COMMON_FRAGMENTS < frags {
-        return false;
-    }
-    bytes <= COMMON_BYTES
 }

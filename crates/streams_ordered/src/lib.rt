@@ -14,8 +14,8 @@ ghost use Rattle.streams_model.specs.Shape.{queuesOf};
 ghost use Rattle.streams_model.specs.State.{stateOf, rowsHeld, bytesSaid, unsound, own, after, laid};
 ghost use Rattle.streams_model.specs.Among.{Others, amongNone, roomyIf, among, Ready};
 use chunk_payload_data::ChunkPayloadData;
+use reassembly_parts::record;
 use reassembly_state::FRAGMENTS;
-use reassembly_state::record;
 use streams_counts::Sum;
 use streams_model::Pushed;
 use streams_model::Streams;
@@ -102,7 +102,7 @@ pub fn push(
     ensures { λ r. ⌜ after (flagTold (r .answer)) (stateOf (r .streams) (now (table .exit)) (now (pool .exit))) ≡ laid (stateOf streams (now (table .entry)) (now (pool .entry))) stream (pushOrdered room (own (stateOf streams (now (table .entry)) (now (pool .entry))) stream) (fragmentOf chunk (now («user_data» .entry)))) ⌝ }
 {
     let place = streams_parts::among_front(streams, stream);
-    let asked = reassembly_ordered::ask(place.queue, table, chunk, user_data.len(), room);
+    let asked = reassembly_ask::ask(place.queue, table, chunk, user_data.len(), room);
     if !asked.keep {
         let answer = asked.answer;
         return Pushed { answer, streams };

@@ -38,7 +38,7 @@ fn to_stream(
             streams,
         };
     }
-    let room = streams_counts::has_room(streams, stream, user_data.len());
+    let room = streams_room::has_room(streams, stream, user_data.len());
     if chunk.unordered {
         return streams_unordered::push(streams, table, pool, stream, chunk, user_data, room);
     }

@@ -2,7 +2,7 @@
 -- Assumes nothing.
 use mathlib.Core.Path.{sym, _∙_}
 use borrow.Author.Needs.{needs}
-use Rattle.reassembly_forward.proofs.Expected.{unbounded, moved-on, stayed}
+use Rattle.reassembly_drop.proofs.Expected.{unbounded, moved-on, stayed}
 use Rattle.reassembly_forward.proofs.skip_ordered.Statement.{statement}
 use Rattle.reassembly_forward.proofs.skip_ordered.Tie as tie
 

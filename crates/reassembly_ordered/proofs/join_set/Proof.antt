@@ -14,7 +14,7 @@ use Rattle.reassembly_state.specs.State.{State, stateOf, count}
 use Rattle.reassembly_state.specs.Rows.{setAt, setRun}
 use Rattle.reassembly_state.proofs.Laws.{Sound, sound}
 use Rattle.reassembly_state.proofs.Chunk.{chunk-long}
-use Rattle.reassembly_ordered.proofs.Sets.{run-fits, join-stored}
+use Rattle.reassembly_ask.proofs.Sets.{run-fits, join-stored}
 use Rattle.reassembly_ordered.proofs.join_set.Statement.{statement}
 use Rattle.reassembly_ordered.proofs.join_set.Tie as tie
 

@@ -13,7 +13,7 @@ use Rattle.reassembly_state.specs.State.{State, stateOf, count}
 use Rattle.reassembly_state.specs.Rows.{orderedRows, setRun}
 use Rattle.reassembly_state.proofs.Laws.{Sound, sound}
 use Rattle.reassembly_state.proofs.Chunk.{chunk-long}
-use Rattle.reassembly_ordered.proofs.Sets.{ordered-long, new-stored}
+use Rattle.reassembly_ask.proofs.Sets.{ordered-long, new-stored}
 use Rattle.reassembly_ordered.proofs.new_set.Statement.{statement}
 use Rattle.reassembly_ordered.proofs.new_set.Tie as tie
 

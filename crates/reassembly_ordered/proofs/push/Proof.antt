@@ -10,7 +10,7 @@ use Rattle.reassembly_state.specs.Limits.{fragsMost}
 use Rattle.reassembly_state.specs.State.{State, stateOf}
 use Rattle.reassembly_state.specs.Rows.{Asks}
 use Rattle.reassembly_state.proofs.Laws.{Sound, sound}
-use Rattle.reassembly_ordered.proofs.Sets.{stays, asked-stays, asked-keeps}
+use Rattle.reassembly_ask.proofs.Sets.{stays, asked-stays, asked-keeps}
 use Rattle.reassembly_ordered.proofs.push.Statement.{statement}
 use Rattle.reassembly_ordered.proofs.push.Tie as tie
 

@@ -12,8 +12,8 @@ use Rattle.reassembly_state.specs.State.{State, stateOf, count}
 use Rattle.reassembly_state.specs.Rows.{InTurn}
 use Rattle.reassembly_state.specs.Answers.{messageHeld}
 use Rattle.reassembly_state.proofs.Laws.{Sound, sound}
-use Rattle.reassembly_take.proofs.Messages.{run-end}
-use Rattle.reassembly_take.proofs.Turn.{turn-within, takes-nothing, takes-none, takes-whole}
+use Rattle.reassembly_turn.proofs.Messages.{run-end}
+use Rattle.reassembly_turn.proofs.Turn.{turn-within, takes-nothing, takes-none, takes-whole}
 use Rattle.reassembly_take.proofs.take.Statement.{statement}
 use Rattle.reassembly_take.proofs.take.Tie as tie
 

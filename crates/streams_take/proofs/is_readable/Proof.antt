@@ -9,7 +9,7 @@ use lib.ListN.{length}
 use Rattle.reassembly_state.specs.Limits.{fragsMost}
 use Rattle.streams_model.specs.State.{State, stateOf, unsound}
 use Rattle.streams_model.proofs.Laws.{Sound, sound, bytes-bounded}
-use Rattle.streams_take.proofs.Asked.{look-unsound, look-no-stream, look-is}
+use Rattle.streams_turn.proofs.Asked.{look-unsound, look-no-stream, look-is}
 use Rattle.streams_take.proofs.is_readable.Statement.{statement}
 use Rattle.streams_take.proofs.is_readable.Tie as tie
 

@@ -5,7 +5,7 @@ use mathlib.Core.Bool.{false}
 use native.Mathlib.Omega.{arith}
 use borrow.Author.Needs.{needs}
 use Rattle.streams_model.specs.State.{State, stateOf, unsound}
-use Rattle.streams_take.proofs.Asked.{read-unsound, read-no-stream, read-is}
+use Rattle.streams_turn.proofs.Asked.{read-unsound, read-no-stream, read-is}
 use Rattle.streams_take.proofs.read.Statement.{statement}
 use Rattle.streams_take.proofs.read.Tie as tie
 
