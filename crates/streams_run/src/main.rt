@@ -1,4 +1,5 @@
-// Eight streams in one pool, run: what one stream may hold, what each of the others is sure of then, and what comes free.
+// Eight streams in one pool, run: what one stream may hold, what each of the others is sure of then, and what comes free. The calls are those that
+// `reassembly_streams` hands on.
 ghost use Prim.Native.Nat.{_≤_};
 use chunk_payload_data::ChunkPayloadData;
 use chunks::Flag;
@@ -6,12 +7,12 @@ use chunks::Number;
 use reassembly_state::BYTES;
 use reassembly_state::Took;
 use reassembly_state::WORDS;
-use reassembly_streams::Streams;
+use streams_model::Streams;
 
 fn main() {
     let mut table = [0u32; WORDS];
     let mut pool = [0u8; BYTES];
-    let streams = reassembly_streams::new(1000);
+    let streams = Streams::new(1000);
     let streams = fill(streams, &mut table, &mut pool, 3, 400);
     let streams = fill(streams, &mut table, &mut pool, 0, 16);
     let streams = fill(streams, &mut table, &mut pool, 7, 16);
@@ -34,7 +35,7 @@ fn skip(
     stream: u16,
     tsn: u32,
 ) -> Streams {
-    let left = reassembly_streams::forward_tsn_for_unordered(streams, table, pool, stream, tsn);
+    let left = streams_forward::forward_tsn_for_unordered(streams, table, pool, stream, tsn);
     print::with_number(b"Stream % skips and holds ", stream as u64);
     held(left.streams, table, pool, stream);
     print::text(b"\n");
@@ -77,7 +78,7 @@ fn push_many(
     while i < n {
         let tsn = base + i * 2;
         i += 1;
-        let left = reassembly_streams::push(now, table, pool, stream, loose(stream, tsn), b"x");
+        let left = streams_push::push(now, table, pool, stream, loose(stream, tsn), b"x");
         now = left.streams;
     }
     now
@@ -109,7 +110,7 @@ fn push(
     c: ChunkPayloadData,
     user_data: &[u8],
 ) -> Streams {
-    let left = reassembly_streams::push(streams, table, pool, c.stream_identifier, c, user_data);
+    let left = streams_push::push(streams, table, pool, c.stream_identifier, c, user_data);
     let answer = left.answer;
     told(answer);
     left.streams
@@ -138,7 +139,7 @@ fn read(
     stream: u16,
 ) -> Streams {
     let mut buffer = [0u8; 8];
-    let taken = reassembly_streams::read(streams, table, pool, stream, &mut buffer);
+    let taken = streams_take::read(streams, table, pool, stream, &mut buffer);
     let answer = taken.answer;
     match answer {
         Took::Message(m) => print::quoted(print::first(&buffer, m.size)),
@@ -151,7 +152,7 @@ fn read(
 
 // How many bytes a stream holds.
 fn held(streams: Streams, table: &[u32; WORDS], pool: &[u8; BYTES], stream: u16) {
-    let answer = reassembly_streams::get_num_bytes(streams, table, pool, stream);
+    let answer = streams_look::get_num_bytes(streams, table, pool, stream);
     match answer {
         Number::Is(n) => print::number(n as u64),
         Number::Refused(number) => {
