@@ -1,12 +1,12 @@
--- `replay_step::chunk_step` meets its contract: the record's answer goes into the line and into the counts.
+-- `replay_turn::chunk_step` meets its contract: the record's answer goes into the line and into the counts.
 -- Assumes nothing.
 use borrow.Author.Needs.{needs}
 use Rattle.payload_model.specs.Answers.{flagTold}
 use Rattle.payload_queue.specs.Queue.{queueOf}
-use Rattle.replay_step.specs.Step.{stateOf}
-use Rattle.replay_step.proofs.Steps.{chunk-left}
-use Rattle.replay_step.proofs.chunk_step.Statement.{statement}
-use Rattle.replay_step.proofs.chunk_step.Tie as tie
+use Rattle.replay_state.specs.State.{stateOf}
+use Rattle.replay_turn.proofs.Steps.{chunk-left}
+use Rattle.replay_turn.proofs.chunk_step.Statement.{statement}
+use Rattle.replay_turn.proofs.chunk_step.Tie as tie
 
 returns : tie.Need-returns
 returns c =

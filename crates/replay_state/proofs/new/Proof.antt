@@ -1,7 +1,7 @@
--- `replay_step::new` meets its contract: nothing is held and nothing is counted.
+-- `replay_state::new` meets its contract: nothing is held and nothing is counted.
 -- Assumes nothing.
-use Rattle.replay_step.proofs.new.Statement.{statement}
-use Rattle.replay_step.proofs.new.Tie as tie
+use Rattle.replay_state.proofs.new.Statement.{statement}
+use Rattle.replay_state.proofs.new.Tie as tie
 
 returns : tie.Need-returns
 returns c = rw (c .before .new .ensures, c .new2 .ensures)

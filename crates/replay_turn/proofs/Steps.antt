@@ -17,7 +17,8 @@ use Rattle.replay_file.specs.File.{none, short, chunk, start}
 use Rattle.replay_push.specs.Decoded.{recorded}
 use Rattle.replay_lines.specs.Lines.{line, saidAnswer, saidCut}
 use Rattle.replay_lines.specs.Behind.{Put}
-use Rattle.replay_step.specs.Step.{State, kindOf, cutShort, chunkStep, stepped, Left, left}
+use Rattle.replay_state.specs.State.{State}
+use Rattle.replay_turn.specs.Step.{kindOf, cutShort, chunkStep, stepped, Left, left}
 
 -- a chunk's answer, written and counted
 pub chunk-left : (taken : ℕ) (s : State) (raw out : List ℕ) (told : Told Bool) (q : Queue) {out′ : List ℕ} {written number : ℕ} {kind : Kind} {counters : Counters}

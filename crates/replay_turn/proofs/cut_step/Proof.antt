@@ -1,10 +1,10 @@
--- `replay_step::cut_step` meets its contract: the line says so, and the counts have it.
+-- `replay_turn::cut_step` meets its contract: the line says so, and the counts have it.
 -- Assumes nothing.
 use borrow.Author.Needs.{needs}
-use Rattle.replay_step.specs.Step.{stateOf}
-use Rattle.replay_step.proofs.Steps.{cut-left}
-use Rattle.replay_step.proofs.cut_step.Statement.{statement}
-use Rattle.replay_step.proofs.cut_step.Tie as tie
+use Rattle.replay_state.specs.State.{stateOf}
+use Rattle.replay_turn.proofs.Steps.{cut-left}
+use Rattle.replay_turn.proofs.cut_step.Statement.{statement}
+use Rattle.replay_turn.proofs.cut_step.Tie as tie
 
 returns : tie.Need-returns
 returns c ws =

@@ -6,34 +6,16 @@ use mathlib.Core.List.{List, []}
 use lib.ListN.{length, take, drop}
 use Rattle.wire.specs.BigEndian.{over}
 use Rattle.wire.specs.Refusal.{Refusal, none, refuse, Told}
-use Rattle.counters.specs.Counted as counted
 use Rattle.counters.specs.Counted.{countedAs}
-use Rattle.counters.specs.declared.Counters.{Counters}
 use Rattle.counters.specs.declared.Kind.{Kind}
 use Rattle.counters.specs.declared.Kind.the-variants as kinds
-use Rattle.payload_model.specs.Queue.{Queue, After}
-use Rattle.payload_queue.specs.Queue as tsns
-use Rattle.payload_queue.specs.Queue.{queueOf}
+use Rattle.payload_model.specs.Queue.{After}
 use Rattle.replay_file.specs.File as file
 use Rattle.replay_file.specs.File.{Start, start}
 use Rattle.replay_push.specs.Decoded.{recorded}
 use Rattle.replay_lines.specs.Lines.{line, saidAnswer, saidCut}
-use Rattle.replay_step.specs.declared.Replay.{Replay}
-use Rattle.replay_step.specs.declared.Turn.{Turn}
-
--- the number of the next record, the TSN queue, and what was counted
-pub record State : Type 0 where
-  pub number : ℕ
-  pub queue : Queue
-  pub counters : Counters
-
--- a struct, and the words lent beside it
-abbrev pub stateOf : Replay → List ℕ → State
-stateOf r ws = record { number = r .number; queue = queueOf (r .queue) ws; counters = r .counters }
-
--- nothing is replayed yet
-abbrev pub fresh : Replay
-fresh = record { number = 0; queue = tsns.fresh; counters = counted.fresh }
+use Rattle.replay_state.specs.State.{State, stateOf}
+use Rattle.replay_turn.specs.declared.Turn.{Turn}
 
 -- "Count stored, turned away, refused and cut records": what an answer counts as
 abbrev pub kindAs : Refusal → Bool → Kind
