@@ -3,8 +3,8 @@
 use lib.Seq.{set-out}
 use borrow.Author.Needs.{needs}
 use borrow.Author.Tests.{lt-ltb, le-ltb}
-use Rattle.sctp_receive_tsns.proofs.note.Statement.{statement}
-use Rattle.sctp_receive_tsns.proofs.note.Tie as tie
+use Rattle.sctp_receive_counts.proofs.note.Statement.{statement}
+use Rattle.sctp_receive_counts.proofs.note.Tie as tie
 
 put-behind : tie.Need-returns
 put-behind c = rw (lt-ltb _ _ (c .before .if1 .taken))

@@ -5,8 +5,8 @@ use native.Mathlib.Omega.{arith}
 use Rattle.sctp_receive_result.proofs.Codes.{back-refuse}
 use Rattle.chunk_payload_data.specs.Data.{dataHeld}
 use Rattle.payload_model.specs.Answers.{queuedFound}
-use Rattle.sctp_receive_tsns.proofs.taken.Statement.{statement}
-use Rattle.sctp_receive_tsns.proofs.taken.Tie as tie
+use Rattle.sctp_receive_answers.proofs.taken.Statement.{statement}
+use Rattle.sctp_receive_answers.proofs.taken.Tie as tie
 
 comes : tie.Need-returns
 unfolding queuedFound dataHeld

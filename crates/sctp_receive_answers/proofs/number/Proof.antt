@@ -3,8 +3,8 @@
 use borrow.Author.Needs.{needs}
 use native.Mathlib.Omega.{arith}
 use Rattle.sctp_receive_result.proofs.Codes.{back-refuse}
-use Rattle.sctp_receive_tsns.proofs.number.Statement.{statement}
-use Rattle.sctp_receive_tsns.proofs.number.Tie as tie
+use Rattle.sctp_receive_answers.proofs.number.Statement.{statement}
+use Rattle.sctp_receive_answers.proofs.number.Tie as tie
 
 refused : tie.Need-returns-2
 refused c = rw (c .before .answer2 .given .1, back-refuse (c .before .answer2 .given .0 .0) (omega arith))
