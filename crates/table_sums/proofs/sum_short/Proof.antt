@@ -1,14 +1,14 @@
--- `table::sum_short` meets its contract: after i turns the sum is that of the first i rows.
+-- `table_sums::sum_short` meets its contract: after i turns the sum is that of the first i rows.
 -- Assumes nothing.
 use mathlib.Core.Path.{_≡_, refl, _∙_}
 use Prim.Native.Nat.{_+_, _*_, _-_, _≤_}
 use native.Mathlib.Omega.{arith}
 use lib.ListN.{take, drop}
 use Rattle.table.specs.Rows.{rowsOf, total, shortLength}
 use Rattle.table.proofs.Columns.{rows-long}
 use Rattle.table.proofs.Scans.{rows-more, total-snoc, head-at}
-use Rattle.table.proofs.sum_short.Statement.{statement}
-use Rattle.table.proofs.sum_short.Tie as tie
+use Rattle.table_sums.proofs.sum_short.Statement.{statement}
+use Rattle.table_sums.proofs.sum_short.Tie as tie
 
 abbrev Inv : tie.InvT-loop
 Inv table size from n sum₀ i₀ sum i = (i ≤ n) × (sum ≤ i * 65535) × (sum ≡ total shortLength (take i (drop from (rowsOf size table))))
