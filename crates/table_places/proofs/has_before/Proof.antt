@@ -1,4 +1,4 @@
--- `table_search::has_before` meets its contract: after i turns it is whether one of the first i rows is before the TSN.
+-- `table_places::has_before` meets its contract: after i turns it is whether one of the first i rows is before the TSN.
 -- Assumes nothing.
 use mathlib.Core.Path.{_≡_, refl}
 use Prim.Native.Nat.{_+_, _-_, _≤_}
@@ -7,8 +7,8 @@ use lib.ListN.{take, drop}
 use Rattle.table.specs.Rows.{rowsOf, some, tsnBefore}
 use Rattle.table.proofs.Columns.{rows-long}
 use Rattle.table.proofs.Scans.{rows-more, some-snoc, tsn-at}
-use Rattle.table_search.proofs.has_before.Statement.{statement}
-use Rattle.table_search.proofs.has_before.Tie as tie
+use Rattle.table_places.proofs.has_before.Statement.{statement}
+use Rattle.table_places.proofs.has_before.Tie as tie
 
 abbrev Inv : tie.InvT-loop
 Inv table size from n tsn tsns found₀ i₀ found i = (i ≤ n) × (tsns ≡ size + from) × (found ≡ some (tsnBefore tsn) (take i (drop from (rowsOf size table))))

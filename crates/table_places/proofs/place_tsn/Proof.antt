@@ -1,4 +1,4 @@
--- `table_search::place_tsn` meets its contract: the last row is before the TSN, or what is passed from the end on is not, so that the place is among the rest.
+-- `table_places::place_tsn` meets its contract: the last row is before the TSN, or what is passed from the end on is not, so that the place is among the rest.
 -- Assumes nothing.
 use mathlib.Core.Path.{_≡_, refl, sym, _∙_}
 use mathlib.Core.Bool.{true}
@@ -9,8 +9,8 @@ use lib.ListN.{getD, take, drop}
 use Rattle.table.specs.Rows.{blank, rowsOf, upToLast, tsnBefore}
 use Rattle.table.proofs.Columns.{rows-long}
 use Rattle.table.proofs.Scans.{last-end, last-passed-all, tsn-at}
-use Rattle.table_search.proofs.place_tsn.Statement.{statement}
-use Rattle.table_search.proofs.place_tsn.Tie as tie
+use Rattle.table_places.proofs.place_tsn.Statement.{statement}
+use Rattle.table_places.proofs.place_tsn.Tie as tie
 
 abbrev Inv : tie.InvT-loop
 Inv table size from n tsn left₀ left =

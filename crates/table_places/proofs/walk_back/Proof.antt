@@ -1,4 +1,4 @@
--- `table_search::walk_back` meets its contract: what is passed from the end on is not before the TSN, so the place is among the rest.
+-- `table_places::walk_back` meets its contract: what is passed from the end on is not before the TSN, so the place is among the rest.
 -- Assumes nothing.
 use mathlib.Core.Path.{_≡_, refl, sym, _∙_}
 use mathlib.Core.Bool.{true, false}
@@ -8,8 +8,8 @@ use lib.ListN.{getD, take, drop}
 use Rattle.table.specs.Rows.{blank, rowsOf, upToLast, tsnBefore}
 use Rattle.table.proofs.Columns.{rows-long}
 use Rattle.table.proofs.Scans.{last-end, last-passed, last-none, tsn-at}
-use Rattle.table_search.proofs.walk_back.Statement.{statement}
-use Rattle.table_search.proofs.walk_back.Tie as tie
+use Rattle.table_places.proofs.walk_back.Statement.{statement}
+use Rattle.table_places.proofs.walk_back.Tie as tie
 
 abbrev Inv : tie.InvT-loop
 Inv table size from n tsn tsns place₀ place =
