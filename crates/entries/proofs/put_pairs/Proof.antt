@@ -1,4 +1,4 @@
--- `fields::put_pairs` meets its contract: after i turns the first i entries stand at the front.
+-- `entries::put_pairs` meets its contract: after i turns the first i entries stand at the front.
 -- Assumes nothing.
 use mathlib.Core.Path.{_≡_, refl}
 use mathlib.Core.List.{_++_}
@@ -8,10 +8,10 @@ use lib.ListN.{length, getD, take, length-drop, length-take}
 use lib.Seq.{take-all}
 use Rattle.wire.specs.BigEndian.{bigEndian}
 use Rattle.wire.proofs.Writing.{Filled, fill-none, fill-turn}
-use Rattle.fields.specs.Pairs.{pairs}
-use Rattle.fields.proofs.Entries.{pairs-entries, entries-more, entries-taken}
-use Rattle.fields.proofs.put_pairs.Statement.{statement}
-use Rattle.fields.proofs.put_pairs.Tie as tie
+use Rattle.entries.specs.Pairs.{pairs}
+use Rattle.entries.proofs.Entries.{pairs-entries, entries-more, entries-taken}
+use Rattle.entries.proofs.put_pairs.Statement.{statement}
+use Rattle.entries.proofs.put_pairs.Tie as tie
 
 abbrev Inv : tie.InvT-loop
 Inv out₀ firsts seconds i₀ out i = (length firsts ≡ length seconds) × Filled (λ (k : ℕ). pairs (take k firsts) (take k seconds)) (length firsts) out₀ out i

@@ -1,11 +1,11 @@
--- `fields::put_pair` meets its contract: the second number goes into what is left behind the first.
+-- `entries::put_pair` meets its contract: the second number goes into what is left behind the first.
 -- Assumes nothing.
 use mathlib.Core.Path.{refl}
 use borrow.Author.Needs.{needs}
 use Rattle.wire.specs.BigEndian.{bigEndian}
 use Rattle.wire.proofs.Writing.{behind}
-use Rattle.fields.proofs.put_pair.Statement.{statement}
-use Rattle.fields.proofs.put_pair.Tie as tie
+use Rattle.entries.proofs.put_pair.Statement.{statement}
+use Rattle.entries.proofs.put_pair.Tie as tie
 
 returns : tie.Need-returns
 unfolding bigEndian

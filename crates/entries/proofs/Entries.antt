@@ -11,7 +11,7 @@ use Rattle.wire.specs.BigEndian.{bigEndian}
 use Rattle.wire.specs.Facts.{big-endian-length}
 use Rattle.wire.proofs.Reading.{begins-with}
 use Rattle.wire.proofs.Exists.{Bytes, piece, cut, bytes-drop}
-use Rattle.fields.specs.Pairs.{pairs, words}
+use Rattle.entries.specs.Pairs.{pairs, words}
 
 -- all is the bytes of the entries of two lists
 pub record Entries (entry : ℕ → ℕ → List ℕ) (all : List ℕ → List ℕ → List ℕ) : Type 0 where
