@@ -17,7 +17,7 @@ use Rattle.chunk.specs.Layout.{header, headerBytes, chunk}
 use Rattle.chunk.specs.Header.{HeaderFront, kindChecks, Headed, HeadedFits}
 use Rattle.chunk.specs.Part.{Part}
 use Rattle.chunk.proofs.Headers.{header-front, passes, headed-accepted, chunk-front, chunk-behind, chunk-passes, part-back}
-use Rattle.fields.proofs.Entries.{entries-length, entry-begins, any-pairs, entry-bytes}
+use Rattle.entries.proofs.Entries.{entries-length, entry-begins, any-pairs, entry-bytes}
 use Rattle.chunk_forward_tsn.specs.Layout.{pair, pairsBytes, forwardTsnChunk}
 use Rattle.chunk_forward_tsn.specs.ForwardTsn.{forward, forwardTold, Word, ForwardFront, pairsOnly, forwardChecks, forwardRead, pairsPart, PairFront, pairTold, pairRead}
 use Rattle.chunk_forward_tsn.specs.declared.Unmarshalled.{Unmarshalled}

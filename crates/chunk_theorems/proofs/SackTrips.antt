@@ -21,7 +21,7 @@ use Rattle.sack_fields.specs.declared.Unmarshalled.the-variants.{Fields}
 use Rattle.sack_entries.specs.declared.GapAckBlockAt.{GapAckBlockAt}
 use Rattle.sack_entries.specs.declared.DuplicateTsnAt.{DuplicateTsnAt}
 use Rattle.chunk.proofs.Headers.{passes, headed-accepted, chunk-front, chunk-behind, chunk-passes, part-back}
-use Rattle.fields.proofs.Entries.{entries-length, entry-begins, any-pairs, any-words, entry-bytes}
+use Rattle.entries.proofs.Entries.{entries-length, entry-begins, any-pairs, any-words, entry-bytes}
 use Rattle.sack_marshal.proofs.SackBytes.{block-entries, tsn-entries, blocks-pairs, tsns-words, sack-value-length, lists-length}
 use Rattle.chunk_theorems.proofs.OneAnswer.{sack-told-one}
 

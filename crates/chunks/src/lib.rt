@@ -1,10 +1,7 @@
 // The message in hand: its bytes stand at the front of a lent buffer, and a record says how many they are and how far a piece reader has come.
 ghost use mathlib.Core.Path.{_≡_};
-ghost use Prim.Native.Nat.{_≤_, min};
-ghost use lib.ListN.{length, take};
-ghost use Rattle.wire.specs.BigEndian.{over};
 ghost use Rattle.wire.specs.Refusal.{written};
-ghost use Rattle.chunks.specs.Message.{numberTold, flagTold, pieceTold, unsound, size, isEmpty, wholeRead, after, finished, moved, nextPiece};
+ghost use Rattle.chunks.specs.Message.{numberTold, flagTold, pieceTold, unsound, size, isEmpty, wholeRead, after, nextPiece};
 
 // A message: its SSN (0 where it is unordered), its payload identifier as it was sent, its number of bytes, the place of the next piece, and
 // whether an empty message's one piece was given.
@@ -43,22 +40,12 @@ pub struct Next {
     pub message: Chunks,
 }
 
-// The smaller of two numbers.
-fn least(a: usize, b: usize) -> usize
-    ensures { λ r. ⌜ r ≡ min a b ⌝ }
-{
-    if a < b { a } else { b }
-}
-
 impl Chunks {
     // Refusal 0: the message is longer than its buffer, or the position is past the message.
     fn unsound(self, buffer: &[u8]) -> bool
         ensures { λ r. ⌜ r ≡ unsound self (now (buffer .entry)) ⌝ }
     {
-        if buffer.len() < self.size {
-            return true;
-        }
-        self.size < self.position
+        hand_place::unsound(buffer.len(), self.size, self.position)
     }
 
     // How many bytes the message has.
@@ -89,26 +76,10 @@ impl Chunks {
             return Number::Refused(0);
         }
         let n = self.size;
-        let room = out.len();
-        if room < n {
-            wire::put_bytes(out, &buffer[0..room]);
+        if hand_copy::copy(buffer, n, out) {
             return Number::Refused(7);
         }
-        wire::put_bytes(out, &buffer[0..n]);
         Number::Is(n)
-    }
-
-    // Whether no piece is left.
-    fn finished(self) -> bool
-        ensures { λ r. ⌜ r ≡ finished self ⌝ }
-    {
-        if self.position != self.size {
-            return false;
-        }
-        if self.size != 0 {
-            return true;
-        }
-        self.given
     }
 
     // The place of the next piece, of at most so many bytes.
@@ -121,19 +92,22 @@ impl Chunks {
                 message: self,
             };
         }
-        if self.finished() {
+        if hand_place::finished(self.size, self.position, self.given) {
             return Next {
                 answer: Piece::Nothing,
                 message: self,
             };
         }
         let start = self.position;
-        let size = least(most, self.size - start);
+        let piece = hand_place::piece(self.size, start, self.given, most);
         let mut message = self;
-        message.position = start + size;
-        message.given = self.given | (self.size == 0);
+        message.position = piece.position;
+        message.given = piece.given;
         Next {
-            answer: Piece::At(Part { start, size }),
+            answer: Piece::At(Part {
+                start,
+                size: piece.size,
+            }),
             message,
         }
     }

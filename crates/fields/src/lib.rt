@@ -1,11 +1,12 @@
-// What the kinds of chunks write: the header with fields of fixed widths, and lists of 4-byte entries. Each is put at the front of what is lent.
+// What the kinds of chunks write: the header with fields of fixed widths, and lists of 4-byte entries, those of pairs handed on. Each is put at the front of what is lent.
 ghost use mathlib.Core.Path.{_≡_};
 ghost use mathlib.Core.List.{_++_};
 ghost use Prim.Native.Nat.{_+_, _*_, _≤_};
 ghost use lib.ListN.{length};
 ghost use Rattle.wire.specs.BigEndian.{bigEndian, over};
 ghost use Rattle.chunk.specs.Layout.{header, headerBytes};
-ghost use Rattle.fields.specs.Pairs.{pairs, words};
+ghost use Rattle.entries.specs.Pairs.{pairs, words};
+pub use entries::put_pairs;
 
 // A chunk's header: type, flags and length.
 fn put_header(out: &mut [u8], kind: u8, flags: u8, size: u16)
@@ -42,7 +43,7 @@ pub fn put_front_4422(
 {
     put_front_4(out, kind, flags, size, a);
     wire::put_u32(&mut out[8..], b);
-    put_pair(&mut out[12..], c, d);
+    entries::put_pair(&mut out[12..], c, d);
 }
 
 // The header, and fields of 4, 2, 2 and 4 bytes behind it.
@@ -60,31 +61,8 @@ pub fn put_front_4224(
     ensures { λ _. ⌜ now (out .exit) ≡ over (now (out .entry)) (headerBytes (header kind flags size) ++ (bigEndian 4 a ++ (bigEndian 2 b ++ (bigEndian 2 c ++ bigEndian 4 d)))) ⌝ }
 {
     put_front_4(out, kind, flags, size, a);
-    put_pair(&mut out[8..], b, c);
+    entries::put_pair(&mut out[8..], b, c);
     wire::put_u32(&mut out[12..], d);
-}
-
-// Two numbers of 2 bytes.
-fn put_pair(out: &mut [u8], first: u16, second: u16)
-    requires { ⌜ 4 ≤ length (now out) ⌝ }
-    ensures { λ _. ⌜ now (out .exit) ≡ over (now (out .entry)) (bigEndian 2 first ++ bigEndian 2 second) ⌝ }
-{
-    wire::put_u16(out, first);
-    wire::put_u16(&mut out[2..], second);
-}
-
-// A list of entries, each of a number of the one list and the number of the other that stands at its index.
-pub fn put_pairs(out: &mut [u8], firsts: &[u16], seconds: &[u16])
-    requires { ⌜ length (now firsts) ≡ length (now seconds) ⌝ }
-    requires { ⌜ 4 * length (now firsts) ≤ length (now out) ⌝ }
-    ensures { λ _. ⌜ now (out .exit) ≡ over (now (out .entry)) (pairs (now (firsts .entry)) (now (seconds .entry))) ⌝ }
-{
-    let mut i: usize = 0;
-    while i < firsts.len() {
-        let at = 4 * i;
-        put_pair(&mut out[at..], firsts[i], seconds[i]);
-        i += 1;
-    }
 }
 
 // A list of numbers of 4 bytes.

@@ -7,7 +7,7 @@ use native.Mathlib.Omega.{arith}
 use lib.ListN.{length, getD, take}
 use lib.Seq.{take-all}
 use Rattle.wire.proofs.Exists.{Bytes}
-use Rattle.fields.proofs.Entries.{entries-length, any-pairs, entry-bytes}
+use Rattle.entries.proofs.Entries.{entries-length, any-pairs, entry-bytes}
 use Rattle.chunk_forward_tsn.specs.Layout.{pairsBytes}
 use Rattle.forward_tsn_marshal.proofs.ForwardBytes.{pair-entries, bytes-pairs}
 use Rattle.forward_tsn.specs.Applied.{Pairs}

@@ -10,8 +10,8 @@ use Rattle.wire.specs.BigEndian.{bigEndian, over}
 use Rattle.wire.specs.Facts.{big-endian-length}
 use Rattle.chunk.specs.Layout.{header, headerBytes}
 use Rattle.chunk.proofs.Headers.{header-length, chunk-put}
-use Rattle.fields.specs.Pairs.{pairs}
-use Rattle.fields.proofs.Entries.{Entries, pairs-entries, entries-length, entries-same}
+use Rattle.entries.specs.Pairs.{pairs}
+use Rattle.entries.proofs.Entries.{Entries, pairs-entries, entries-length, entries-same}
 use Rattle.forward_tsn_entries.specs.Layout.{Pair, pair, pairBytes, pairsBytes, forwardTsnChunk}
 
 pub pair-length : (p : Pair) → length (pairBytes p) ≡ 4

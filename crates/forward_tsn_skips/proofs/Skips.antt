@@ -10,7 +10,7 @@ use lib.ListN.{length, getD, take, drop, length-drop, take-append-drop, drop-of-
 use lib.Seq.{take-all, take-append-le, drop-append-le, drop-cons, length-take-le}
 use Rattle.wire.specs.Refusal.{none, first}
 use Rattle.wire.proofs.Reading.{refused, accepted}
-use Rattle.fields.proofs.Entries.{entry-begins}
+use Rattle.entries.proofs.Entries.{entry-begins}
 use Rattle.chunk_forward_tsn.specs.Layout.{Pair, pair, pairBytes}
 use Rattle.chunk_forward_tsn.specs.ForwardTsn.{entryChecks, PairFront, pairTold, pairRead}
 use Rattle.forward_tsn_entries.specs.declared.ChunkForwardTsnStream.{ChunkForwardTsnStream}

@@ -77,7 +77,7 @@ pub fn abandon_message(
     }
     let count = counts.count;
     inflight_heads::abandon(table, messages, count, message);
-    let sum = table::sum_short(table, TSNS, 0, count);
+    let sum = table_sums::sum_short(table, TSNS, 0, count);
     let released = counts.n_bytes - sum;
     let mut queue = counts;
     queue.n_bytes = sum;

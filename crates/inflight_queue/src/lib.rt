@@ -56,10 +56,7 @@ impl InFlightQueue {
     pub fn new() -> Self
         ensures { λ r. ⌜ r ≡ fresh ⌝ }
     {
-        InFlightQueue {
-            count: 0,
-            n_bytes: 0,
-        }
+        queue_of(inflight_fresh::fresh())
     }
 
     // The same counts, as the crates below take them.

@@ -67,7 +67,7 @@ pub fn pop_up_to(
     let left = payload_parts::keep_after(table, count, tsn);
     let mut queue = counts;
     queue.count = left;
-    queue.n_bytes = table::sum_short(table, TSNS, 0, left);
+    queue.n_bytes = table_sums::sum_short(table, TSNS, 0, left);
     Changed {
         answer: Done::All,
         queue,

@@ -15,9 +15,10 @@ use Rattle.replay_file.specs.declared.Record.{Record}
 use Rattle.replay_file.specs.declared.Record.the-variants as records
 use Rattle.replay_lines.specs.Behind.{Put}
 use Rattle.replay_lines.specs.Lines.{totalLine, badVersion}
-use Rattle.replay_step.specs.Step.{stateOf, fresh, stepped, Left, left, leftOf}
-use Rattle.replay_step.specs.declared.Replay.{Replay}
-use Rattle.replay_step.specs.declared.Turn.{Turn}
+use Rattle.replay_state.specs.State.{stateOf, fresh}
+use Rattle.replay_state.specs.declared.Replay.{Replay}
+use Rattle.replay_turn.specs.Step.{stepped, Left, left, leftOf}
+use Rattle.replay_turn.specs.declared.Turn.{Turn}
 use Rattle.one_answer.proofs.Only.{Only, named-one, only, both}
 use Rattle.one_answer.proofs.States.{TsnWords, tsn-struct-one, tsn-words-one}
 

@@ -24,7 +24,7 @@ pub fn unsound(counts: Counts, table: &[u32]) -> bool
     if LOG < counts.dups {
         return true;
     }
-    let sum = table::sum_short(table, TSNS, 0, count);
+    let sum = table_sums::sum_short(table, TSNS, 0, count);
     sum != counts.n_bytes
 }
 

@@ -65,12 +65,7 @@ impl PayloadQueue {
     pub fn new() -> Self
         ensures { λ r. ⌜ r ≡ fresh ⌝ }
     {
-        PayloadQueue {
-            count: 0,
-            n_bytes: 0,
-            dups: 0,
-            dup_tsn: [0u32; LOG],
-        }
+        queue_of(payload_fresh::fresh())
     }
 
     // The same counts, as the crates below take them.

@@ -61,7 +61,7 @@ pub fn pop_up_to(counts: Counts, table: &mut [u32; WORDS], tsn: u32) -> Dropped
     let left = payload_parts::keep_after(table, count, tsn);
     let mut queue = counts;
     queue.count = left;
-    queue.n_bytes = table::sum_short(table, TSNS, 0, left);
+    queue.n_bytes = table_sums::sum_short(table, TSNS, 0, left);
     Dropped {
         answer: Done::All,
         queue,

@@ -18,7 +18,8 @@ use Rattle.replay_file.specs.File as file
 use Rattle.replay_file.specs.File.{Start, start, partedAt, recordsOf, recordsMost, number, versioned}
 use Rattle.replay_file.proofs.Starts.{starts-shown}
 use Rattle.replay_lines.specs.Lines.{line, saidCut, totalLine, badVersion}
-use Rattle.replay_step.specs.Step.{State, stateOf, fresh, stepAt, stepped, chunkStep}
+use Rattle.replay_state.specs.State.{State, stateOf, fresh}
+use Rattle.replay_turn.specs.Step.{stepAt, stepped, chunkStep}
 use Rattle.replay_theorems.specs.Output.{Outcome, countedOf, outcomes, lines, output}
 use Rattle.replay_theorems.specs.Program.{onward, run, programs, Shown, all, front}
 

@@ -13,7 +13,7 @@ use Rattle.payload_model.specs.Run.{starts}
 use Rattle.replay_file.specs.File.{versioned, Part, whole, cut, recordsOf}
 use Rattle.replay_push.specs.Decoded.{recorded}
 use Rattle.replay_lines.specs.Lines.{line, saidAnswer, saidCut, totalLine, badVersion}
-use Rattle.replay_step.specs.Step.{kindOf}
+use Rattle.replay_turn.specs.Step.{kindOf}
 
 -- what became of a record: its answer, or that it is cut short
 pub data Outcome : Type 0 where

@@ -7,7 +7,8 @@ use mathlib.Core.List.{List, _++_}
 use lib.ListN.{length, drop}
 use Rattle.replay_file.specs.File.{versioned}
 use Rattle.replay_lines.specs.Lines.{totalLine, badVersion}
-use Rattle.replay_step.specs.Step.{State, stateOf, fresh, Step, stepped}
+use Rattle.replay_state.specs.State.{State, stateOf, fresh}
+use Rattle.replay_turn.specs.Step.{Step, stepped}
 
 -- a step's text, and behind it the rest, where there may be more; the totals, where there is none
 abbrev pub onward : Step → List ℕ → (State → List ℕ → List ℕ) → List ℕ

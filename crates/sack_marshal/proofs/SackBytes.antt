@@ -11,8 +11,8 @@ use Rattle.wire.specs.Facts.{big-endian-length}
 use Rattle.chunk.specs.Layout.{header, headerBytes}
 use Rattle.sack_entries.specs.Layout.{Sack, sack, sackValue, Block, block, blockBytes, gapBlocks, duplicateTsns, sackChunk}
 use Rattle.chunk.proofs.Headers.{header-length, chunk-put}
-use Rattle.fields.specs.Pairs.{pairs, words}
-use Rattle.fields.proofs.Entries.{Entries, pairs-entries, words-entries, entries-length, entries-same}
+use Rattle.entries.specs.Pairs.{pairs, words}
+use Rattle.entries.proofs.Entries.{Entries, pairs-entries, words-entries, entries-length, entries-same}
 
 -- ── the lists, entry by entry ──
 

@@ -1,47 +1,18 @@
-// What the C calls of the TSN queue are made of: push, the fields that C keeps, put back, and the answers, taken apart: the values go through references,
-// 0 and false beside a refusal, and the result is -1 or the refusal's number.
+// What the C calls of the TSN queue are made of: push; the fields that C keeps and the answers taken apart are handed on.
 ghost use mathlib.Core.Path.{_≡_};
 ghost use Rattle.payload_model.specs.Queue.{after, rowOf, pushed};
-ghost use Rattle.payload_model.specs.Log.{noted};
-ghost use Rattle.payload_model.specs.Answers.{flagTold, numberTold, takenTold};
-ghost use Rattle.sctp_receive_result.specs.Result.{told, back};
-ghost use Rattle.sctp_receive_model.specs.Fields.{valuesFrom, foundFrom};
-ghost use Rattle.sctp_receive_model.specs.States.{tsnCounts, tsnsFrom};
+ghost use Rattle.sctp_receive_result.specs.Result.{told};
+ghost use Rattle.sctp_receive_model.specs.States.{tsnsFrom};
 use chunk_payload_data::ChunkPayloadData;
-use payload_queue::Flag;
 use payload_queue::LOG;
-use payload_queue::Number;
-use payload_queue::PayloadQueue;
-use payload_queue::Taken;
 use payload_queue::WORDS;
-pub use sctp_receive_model::tsns::of_counts;
-pub use sctp_receive_model::tsns::put_counts;
-
-// A TSN, put behind the first ones of the log where it now holds more than those.
-fn note(log: &mut [u32], at: usize, dups: usize, tsn: u32)
-    ensures { λ _. ⌜ now (log .exit) ≡ noted (now (log .entry)) at dups tsn ⌝ }
-{
-    if at < dups {
-        if at < log.len() {
-            log[at] = tsn;
-        }
-    }
-}
-
-// The queue, its log too, put back into the fields that C keeps.
-pub fn put(
-    queue: PayloadQueue,
-    count: &mut usize,
-    n_bytes: &mut usize,
-    dups: &mut usize,
-    dup_tsn: &mut [u32; LOG],
-)
-    ensures { λ _. ⌜ tsnCounts (now (count .exit)) (now («n_bytes» .exit)) (now (dups .exit)) (now («dup_tsn» .exit)) ≡ queue ⌝ }
-{
-    put_counts(queue, count, n_bytes, dups);
-    let log = queue.dup_tsn;
-    *dup_tsn = log;
-}
+pub use sctp_receive_answers::flag;
+pub use sctp_receive_answers::number;
+pub use sctp_receive_answers::taken;
+use sctp_receive_counts::note;
+pub use sctp_receive_counts::of_counts;
+pub use sctp_receive_counts::put;
+pub use sctp_receive_counts::put_counts;
 
 // Stores the chunk by its TSN, or logs its TSN where it is held or old; 17 where it is opposite to the cumulative one, 8 where no room is left.
 pub fn push(
@@ -65,82 +36,4 @@ pub fn push(
     note(dup_tsn, at, left.dups, chunk.tsn);
     let answer = pushed.answer;
     flag(answer, is)
-}
-
-// Yes or no.
-pub fn flag(answer: Flag, is: &mut bool) -> i32
-    ensures { λ r. ⌜ told (back r) (now (is .exit)) ≡ flagTold answer ⌝ }
-{
-    match answer {
-        Flag::Is(b) => {
-            *is = b;
-            -1
-        }
-        Flag::Refused(k) => {
-            *is = false;
-            k as i32
-        }
-    }
-}
-
-// A number.
-pub fn number(answer: Number, n: &mut usize) -> i32
-    ensures { λ r. ⌜ told (back r) (now (n .exit)) ≡ numberTold answer ⌝ }
-{
-    match answer {
-        Number::Is(k) => {
-            *n = k;
-            -1
-        }
-        Number::Refused(k) => {
-            *n = 0;
-            k as i32
-        }
-    }
-}
-
-// A chunk with its data length, if one was found.
-pub fn taken(
-    answer: Taken,
-    found: &mut bool,
-    unordered: &mut bool,
-    beginning_fragment: &mut bool,
-    ending_fragment: &mut bool,
-    immediate_sack: &mut bool,
-    tsn: &mut u32,
-    stream_identifier: &mut u16,
-    stream_sequence_number: &mut u16,
-    payload_type: &mut u32,
-    size: &mut u16,
-) -> i32
-    ensures { λ r. ⌜ told (back r) (foundFrom (now (found .exit)) (valuesFrom (now (unordered .exit)) (now («beginning_fragment» .exit)) (now («ending_fragment» .exit)) (now («immediate_sack» .exit)) (now (tsn .exit)) (now («stream_identifier» .exit)) (now («stream_sequence_number» .exit)) (now («payload_type» .exit))) (now (size .exit))) ≡ takenTold answer ⌝ }
-{
-    *found = false;
-    *unordered = false;
-    *beginning_fragment = false;
-    *ending_fragment = false;
-    *immediate_sack = false;
-    *tsn = 0;
-    *stream_identifier = 0;
-    *stream_sequence_number = 0;
-    *payload_type = 0;
-    *size = 0;
-    match answer {
-        Taken::Chunk(q) => {
-            let p = q.chunk;
-            *found = true;
-            *unordered = p.unordered;
-            *beginning_fragment = p.beginning_fragment;
-            *ending_fragment = p.ending_fragment;
-            *immediate_sack = p.immediate_sack;
-            *tsn = p.tsn;
-            *stream_identifier = p.stream_identifier;
-            *stream_sequence_number = p.stream_sequence_number;
-            *payload_type = p.payload_type;
-            *size = q.size;
-            -1
-        }
-        Taken::Nothing => -1,
-        Taken::Refused(k) => k as i32,
-    }
 }

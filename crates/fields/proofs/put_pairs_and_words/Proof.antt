@@ -4,8 +4,8 @@ use Prim.Native.Nat.{_*_}
 use borrow.Author.Needs.{needs}
 use lib.ListN.{length}
 use Rattle.wire.proofs.Writing.{behind}
-use Rattle.fields.specs.Pairs.{pairs, words}
-use Rattle.fields.proofs.Entries.{pairs-entries, entries-length}
+use Rattle.entries.specs.Pairs.{pairs, words}
+use Rattle.entries.proofs.Entries.{pairs-entries, entries-length}
 use Rattle.fields.proofs.put_pairs_and_words.Statement.{statement}
 use Rattle.fields.proofs.put_pairs_and_words.Tie as tie
 

@@ -8,8 +8,8 @@ use lib.ListN.{length, getD, take, length-drop, length-take}
 use lib.Seq.{take-all}
 use Rattle.wire.specs.BigEndian.{bigEndian, over}
 use Rattle.wire.proofs.Writing.{Filled, fill-none, fill-turn}
-use Rattle.fields.specs.Pairs.{words}
-use Rattle.fields.proofs.Entries.{words-entries, entries-more, entries-taken}
+use Rattle.entries.specs.Pairs.{words}
+use Rattle.entries.proofs.Entries.{words-entries, entries-more, entries-taken}
 use Rattle.fields.proofs.put_words.Statement.{statement}
 use Rattle.fields.proofs.put_words.Tie as tie
 

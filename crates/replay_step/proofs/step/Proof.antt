@@ -4,8 +4,8 @@ use mathlib.Core.Path.{_∙_}
 use borrow.Author.Needs.{needs}
 use native.Mathlib.Omega.{arith}
 use Rattle.replay_file.proofs.Starts.{starts-within}
-use Rattle.replay_step.specs.Step.{stateOf}
-use Rattle.replay_step.proofs.Steps.{nothing-stepped, cut-stepped, chunk-stepped}
+use Rattle.replay_state.specs.State.{stateOf}
+use Rattle.replay_turn.proofs.Steps.{nothing-stepped, cut-stepped, chunk-stepped}
 use Rattle.replay_step.proofs.step.Statement.{statement}
 use Rattle.replay_step.proofs.step.Tie as tie
 
