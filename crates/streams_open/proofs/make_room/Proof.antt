@@ -1,4 +1,4 @@
--- `streams_ordered::make_room` meets its contract: where nothing stands behind the stream nothing is done; else the fragment is put in behind its own.
+-- `streams_open::make_room` meets its contract: where nothing stands behind the stream nothing is done; else the fragment is put in behind its own.
 -- Assumes nothing.
 use mathlib.Core.Path.{_≡_, refl, sym, ap, _∙_}
 use mathlib.Core.Bool.{Bool, true, false}
@@ -23,8 +23,8 @@ use Rattle.reassembly_state.proofs.Chunk.{chunkRow, chunk-bytes, chunk-frag, ch
 use Rattle.streams_model.proofs.Laws.{Sound, sound, sums-total}
 use Rattle.streams_model.proofs.Among.{rows-split, bytes-split}
 use Rattle.streams_model.proofs.Opened.{ready-last, ready-opened}
-use Rattle.streams_ordered.proofs.make_room.Statement.{statement}
-use Rattle.streams_ordered.proofs.make_room.Tie as tie
+use Rattle.streams_open.proofs.make_room.Statement.{statement}
+use Rattle.streams_open.proofs.make_room.Tie as tie
 
 -- what is lent
 abbrev of : tie.Start → State

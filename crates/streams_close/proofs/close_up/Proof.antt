@@ -1,13 +1,13 @@
--- `streams_skips::close_up` meets its contract: where as many fragments and bytes are left nothing has to move; else it is one move down.
+-- `streams_close::close_up` meets its contract: where as many fragments and bytes are left nothing has to move; else it is one move down.
 -- Assumes nothing.
 use Prim.Native.Nat.{_+_}
 use borrow.Author.Needs.{needs}
 use Rattle.table.specs.Rows.{rowsOf}
 use Rattle.reassembly_state.specs.Limits.{fragsMost}
 use Rattle.reassembly_state.specs.State.{count}
-use Rattle.streams_skips.proofs.Shrunk.{nothing-gone}
-use Rattle.streams_skips.proofs.close_up.Statement.{statement}
-use Rattle.streams_skips.proofs.close_up.Tie as tie
+use Rattle.streams_close.proofs.Gone.{nothing-gone}
+use Rattle.streams_close.proofs.close_up.Statement.{statement}
+use Rattle.streams_close.proofs.close_up.Tie as tie
 
 nothing : tie.Need-returns
 nothing c =
