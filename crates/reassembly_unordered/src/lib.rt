@@ -75,7 +75,7 @@ fn store_loose(
     let loose = queue.unordered;
     let held = from + (loose + queue.ordered);
     let place = from + table_search::walk_back(table, FRAGMENTS, from, loose, row.tsn);
-    fragments::put_fragment(
+    fragment_put::put_fragment(
         table,
         FRAGMENTS,
         held,

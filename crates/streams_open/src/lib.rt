@@ -44,5 +44,5 @@ pub fn make_room(
     let at = queue.finished + (queue.unordered + queue.ordered);
     let held = at + behind.rows;
     let bytes = queue.n_bytes + behind.bytes;
-    fragments::put_fragment(table, FRAGMENTS, held, pool, bytes, at, row, user_data);
+    fragment_put::put_fragment(table, FRAGMENTS, held, pool, bytes, at, row, user_data);
 }

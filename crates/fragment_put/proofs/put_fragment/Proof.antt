@@ -1,13 +1,13 @@
--- `fragments::put_fragment` meets its contract: the row and the bytes that are put in are those of the fragment.
+-- `fragment_put::put_fragment` meets its contract: the row and the bytes that are put in are those of the fragment.
 -- Assumes nothing.
 use Prim.Native.Nat.{_≤_}
 use borrow.Author.Needs.{needs}
 use native.Mathlib.Omega.{arith}
 use lib.ListN.{length}
 use Rattle.table.specs.Rows.{rowsOf}
 use Rattle.fragments.proofs.Pool.{total-take, put-rows, put-bytes}
-use Rattle.fragments.proofs.put_fragment.Statement.{statement}
-use Rattle.fragments.proofs.put_fragment.Tie as tie
+use Rattle.fragment_put.proofs.put_fragment.Statement.{statement}
+use Rattle.fragment_put.proofs.put_fragment.Tie as tie
 
 put-bytes-requires : tie.Need-put-bytes-requires
 put-bytes-requires c κs =

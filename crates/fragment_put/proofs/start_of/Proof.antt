@@ -1,9 +1,9 @@
--- `fragments::start_of` meets its contract: behind all rows the lengths ahead are all of them.
+-- `fragment_put::start_of` meets its contract: behind all rows the lengths ahead are all of them.
 -- Assumes nothing.
 use mathlib.Core.Path.{sym}
 use borrow.Author.Needs.{needs}
-use Rattle.fragments.proofs.start_of.Statement.{statement}
-use Rattle.fragments.proofs.start_of.Tie as tie
+use Rattle.fragment_put.proofs.start_of.Statement.{statement}
+use Rattle.fragment_put.proofs.start_of.Tie as tie
 
 behind : tie.Need-returns
 behind c = let s = c .before .before in rw (c .if1 .taken) (sym (s .pre .1 .1 .1 .1))

@@ -1,13 +1,13 @@
--- `fragments::close_fragments` meets its contract: the rows and the bytes that are taken out are those of the fragments.
+-- `fragment_close::close_fragments` meets its contract: the rows and the bytes that are taken out are those of the fragments.
 -- Assumes nothing.
 use Prim.Native.Nat.{_+_}
 use borrow.Author.Needs.{needs}
 use native.Mathlib.Omega.{arith}
 use Rattle.table.specs.Rows.{rowsOf}
 use Rattle.table.proofs.Columns.{rows-long}
 use Rattle.fragments.proofs.Pool.{total-take, total-within, gone-rows, gone-bytes, gone-last-rows, gone-last-bytes}
-use Rattle.fragments.proofs.close_fragments.Statement.{statement}
-use Rattle.fragments.proofs.close_fragments.Tie as tie
+use Rattle.fragment_close.proofs.close_fragments.Statement.{statement}
+use Rattle.fragment_close.proofs.close_fragments.Tie as tie
 
 close-bytes-requires : tie.Need-close-bytes-requires
 close-bytes-requires c κs =

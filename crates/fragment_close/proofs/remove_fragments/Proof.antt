@@ -1,8 +1,8 @@
--- `fragments::remove_fragments` meets its contract: what it answers and closes up are the sums of the lengths.
+-- `fragment_close::remove_fragments` meets its contract: what it answers and closes up are the sums of the lengths.
 -- Assumes nothing.
 use borrow.Author.Needs.{needs}
-use Rattle.fragments.proofs.remove_fragments.Statement.{statement}
-use Rattle.fragments.proofs.remove_fragments.Tie as tie
+use Rattle.fragment_close.proofs.remove_fragments.Statement.{statement}
+use Rattle.fragment_close.proofs.remove_fragments.Tie as tie
 
 pub remove-fragments-spec : {M : Type 1} → statement M
 remove-fragments-spec =

@@ -1,4 +1,4 @@
--- `loose_fragments::has_marks` meets its contract: after i turns it is whether one of the first i rows is B, and whether one is E.
+-- `loose_marks::has_marks` meets its contract: after i turns it is whether one of the first i rows is B, and whether one is E.
 -- Assumes nothing.
 use mathlib.Core.Path.{_≡_, refl}
 use Prim.Native.Nat.{_+_, _-_, _≤_}
@@ -8,8 +8,8 @@ use Rattle.table.specs.Rows.{rowsOf, some}
 use Rattle.table.proofs.Columns.{rows-long}
 use Rattle.table.proofs.Scans.{rows-more, some-snoc, head-at}
 use Rattle.fragments.specs.Frag.{ofRow, begins, ends}
-use Rattle.loose_fragments.proofs.has_marks.Statement.{statement}
-use Rattle.loose_fragments.proofs.has_marks.Tie as tie
+use Rattle.loose_marks.proofs.has_marks.Statement.{statement}
+use Rattle.loose_marks.proofs.has_marks.Tie as tie
 
 abbrev Inv : tie.InvT-loop
 Inv table size from n begin₀ end₀ i₀ begin end i =
