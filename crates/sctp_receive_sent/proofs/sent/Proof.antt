@@ -6,8 +6,8 @@ use Rattle.sctp_receive_result.proofs.Codes.{back-refuse}
 use Rattle.chunk_payload_data.specs.Data.{dataHeld}
 use Rattle.payload_model.specs.Answers.{queuedFound}
 use Rattle.inflight_model.specs.Answers.{sentGiven}
-use Rattle.sctp_receive_inflight.proofs.sent.Statement.{statement}
-use Rattle.sctp_receive_inflight.proofs.sent.Tie as tie
+use Rattle.sctp_receive_sent.proofs.sent.Statement.{statement}
+use Rattle.sctp_receive_sent.proofs.sent.Tie as tie
 
 comes : tie.Need-returns
 unfolding sentGiven queuedFound dataHeld

@@ -1,11 +1,11 @@
--- `inflight_heads::again_head` meets its contract: where neither mark is set, the bits above the marks, the retransmit mark and the length.
+-- `inflight_head::again_head` meets its contract: where neither mark is set, the bits above the marks, the retransmit mark and the length.
 -- Assumes nothing.
 use borrow.Author.Needs.{needs}
 use borrow.Author.Tests.{eq-eqb, ne-eqb}
 use native.Mathlib.Omega.{arith}
 use Rattle.inflight_model.specs.Queue.{againHead}
-use Rattle.inflight_heads.proofs.again_head.Statement.{statement}
-use Rattle.inflight_heads.proofs.again_head.Tie as tie
+use Rattle.inflight_head.proofs.again_head.Statement.{statement}
+use Rattle.inflight_head.proofs.again_head.Tie as tie
 
 unmarked : tie.Need-returns
 unfolding againHead

@@ -1,10 +1,10 @@
--- `inflight_heads::abandoned_if` meets its contract: the bits above the marks, the acknowledged mark as it was, and the abandoned one; or the head itself.
+-- `inflight_head::abandoned_if` meets its contract: the bits above the marks, the acknowledged mark as it was, and the abandoned one; or the head itself.
 -- Assumes nothing.
 use borrow.Author.Needs.{needs}
 use native.Mathlib.Omega.{arith}
 use Rattle.inflight_model.specs.Queue.{abandonedHead}
-use Rattle.inflight_heads.proofs.abandoned_if.Statement.{statement}
-use Rattle.inflight_heads.proofs.abandoned_if.Tie as tie
+use Rattle.inflight_head.proofs.abandoned_if.Statement.{statement}
+use Rattle.inflight_head.proofs.abandoned_if.Tie as tie
 
 hit : tie.Need-returns
 unfolding abandonedHead

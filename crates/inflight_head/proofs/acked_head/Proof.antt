@@ -1,10 +1,10 @@
--- `inflight_heads::acked_head` meets its contract: the bits above the marks, the abandoned mark as it was, and the acknowledged one.
+-- `inflight_head::acked_head` meets its contract: the bits above the marks, the abandoned mark as it was, and the acknowledged one.
 -- Assumes nothing.
 use borrow.Author.Needs.{needs}
 use native.Mathlib.Omega.{arith}
 use Rattle.inflight_model.specs.Queue.{ackedHead}
-use Rattle.inflight_heads.proofs.acked_head.Statement.{statement}
-use Rattle.inflight_heads.proofs.acked_head.Tie as tie
+use Rattle.inflight_head.proofs.acked_head.Statement.{statement}
+use Rattle.inflight_head.proofs.acked_head.Tie as tie
 
 returns : tie.Need-returns
 unfolding ackedHead

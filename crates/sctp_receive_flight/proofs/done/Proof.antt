@@ -3,8 +3,8 @@
 use borrow.Author.Needs.{needs}
 use native.Mathlib.Omega.{arith}
 use Rattle.sctp_receive_result.proofs.Codes.{back-refuse}
-use Rattle.sctp_receive_inflight.proofs.done.Statement.{statement}
-use Rattle.sctp_receive_inflight.proofs.done.Tie as tie
+use Rattle.sctp_receive_flight.proofs.done.Statement.{statement}
+use Rattle.sctp_receive_flight.proofs.done.Tie as tie
 
 all : tie.Need-returns
 all c = rw (c .enum-told .given .1)

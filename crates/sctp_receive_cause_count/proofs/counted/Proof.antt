@@ -1,10 +1,10 @@
--- `sctp_receive_causes::counted` meets its contract: the count as answered, else 0 and the refusal.
+-- `sctp_receive_cause_count::counted` meets its contract: the count as answered, else 0 and the refusal.
 -- Assumes nothing.
 use borrow.Author.Needs.{needs}
 use native.Mathlib.Omega.{arith}
 use Rattle.sctp_receive_result.proofs.Codes.{back-refuse}
-use Rattle.sctp_receive_causes.proofs.counted.Statement.{statement}
-use Rattle.sctp_receive_causes.proofs.counted.Tie as tie
+use Rattle.sctp_receive_cause_count.proofs.counted.Statement.{statement}
+use Rattle.sctp_receive_cause_count.proofs.counted.Tie as tie
 
 refused : tie.Need-returns-2
 refused c = rw (c .before .answer2 .given .1, back-refuse (c .before .answer2 .given .0 .0) (omega arith))
