@@ -1,4 +1,4 @@
--- `reassembly_unordered::store_loose` meets its contract: the place among the loose rows is that among the loose fragments, and the row with its bytes is the chunk's fragment.
+-- `reassembly_loose::store_loose` meets its contract: the place among the loose rows is that among the loose fragments, and the row with its bytes is the chunk's fragment.
 -- Assumes nothing.
 use mathlib.Core.Path.{_≡_, ap, _∙_}
 use borrow.Author.Needs.{needs}
@@ -12,9 +12,9 @@ use Rattle.reassembly_state.specs.Limits.{fragsMost}
 use Rattle.reassembly_state.specs.State.{State, stateOf, fragmentOf}
 use Rattle.reassembly_state.proofs.Chunk.{chunk-row, frag-back, row-size}
 use Rattle.reassembly_state.proofs.Laws.{Sound, sound}
-use Rattle.reassembly_unordered.proofs.Loose.{place, place-within, stored-lay}
-use Rattle.reassembly_unordered.proofs.store_loose.Statement.{statement}
-use Rattle.reassembly_unordered.proofs.store_loose.Tie as tie
+use Rattle.reassembly_loose.proofs.Loose.{place, place-within, stored-lay}
+use Rattle.reassembly_loose.proofs.store_loose.Statement.{statement}
+use Rattle.reassembly_loose.proofs.store_loose.Tie as tie
 
 -- the state that is lent
 abbrev of : tie.Start → State

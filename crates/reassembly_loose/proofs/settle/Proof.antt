@@ -1,4 +1,4 @@
--- `reassembly_unordered::settle` meets its contract: the scan over the loose rows is that over the loose fragments, and the run that it finds goes behind the finished ones.
+-- `reassembly_loose::settle` meets its contract: the scan over the loose rows is that over the loose fragments, and the run that it finds goes behind the finished ones.
 -- Assumes nothing.
 use mathlib.Core.Path.{_≡_}
 use Prim.Native.Nat.{_≤_}
@@ -9,9 +9,9 @@ use Rattle.table.proofs.Columns.{rows-long}
 use Rattle.reassembly_state.specs.Limits.{fragsMost}
 use Rattle.reassembly_state.specs.State.{State, stateOf, count}
 use Rattle.reassembly_state.proofs.Laws.{Sound, sound}
-use Rattle.reassembly_unordered.proofs.Loose.{found-within, found-none, found-some}
-use Rattle.reassembly_unordered.proofs.settle.Statement.{statement}
-use Rattle.reassembly_unordered.proofs.settle.Tie as tie
+use Rattle.reassembly_loose.proofs.Loose.{found-within, found-none, found-some}
+use Rattle.reassembly_loose.proofs.settle.Statement.{statement}
+use Rattle.reassembly_loose.proofs.settle.Tie as tie
 
 -- the state that is lent
 abbrev of : tie.Start → State
