@@ -17,8 +17,8 @@ use Rattle.fragments.specs.Words.{size, any, placed}
 use Rattle.fragment_sets.specs.Sets.{setOf, complete, grownSet, stored}
 use Rattle.loose_fragments.specs.Loose.{reach}
 use Rattle.reassembly_state.specs.Model.{Queue, queue, roomFor, Given, gives, withOrdered, keepOrdered, pushOrdered, moveRun, keepLoose, pushUnordered, push}
-use Rattle.arrival.specs.Plan.{Carried, chunk, afterPush}
-use Rattle.arrival.proofs.Scans.{Scan, nothing, found, seek, spanned, scan-seeks}
+use Rattle.arrival_plan.specs.Plan.{Carried, chunk, afterPush}
+use Rattle.arrival_plan.proofs.Scans.{Scan, nothing, found, seek, spanned, scan-seeks}
 
 -- the push of a chunk of the queue's stream
 abbrev pushed : Queue → Carried → Given Bool

@@ -6,15 +6,15 @@ use mathlib.Core.List.{List, [], _∷_, _++_, append-assoc, nil≢cons}
 use mathlib.Core.Logic.{_⊎_, inl, inr}
 use lib.ListN.{length}
 use Rattle.fragments.specs.Frag.{Frag}
-use Rattle.arrival.specs.Plan.{Msg, Carried, chunk, Order}
-use Rattle.arrival.proofs.Shape.{Done}
-use Rattle.arrival.proofs.Locate.{Picked, order-cons, At, chunks, at-chunks}
-use Rattle.arrival.proofs.Sorts.{In-first, In-second, which}
-use Rattle.arrival.proofs.Maps.{Each}
-use Rattle.arrival_with_skips.proofs.Each.{each-at}
-use Rattle.arrival_with_skips.proofs.Fates.{marks, done-pending, Item, item, msgs, all, In, find-in, In-fates, find-fate}
-use Rattle.arrival_with_skips.proofs.Runs.{Event, Push, pushes, Frame, Far, Past, whole, over, waits, Settled, due, late, state, ahead, Sound, Good, Runs}
-use Rattle.arrival_with_skips.proofs.Pushed.{was, is, away, push-set, push-old, push-loose}
+use Rattle.arrival_plan.specs.Plan.{Msg, Carried, chunk, Order}
+use Rattle.arrival_plan.proofs.Shape.{Done}
+use Rattle.arrival_plan.proofs.Locate.{Picked, order-cons, At, chunks, at-chunks}
+use Rattle.arrival_plan.proofs.Sorts.{In-first, In-second, which}
+use Rattle.arrival_plan.proofs.Maps.{Each}
+use Rattle.skips_plan.proofs.Each.{each-at}
+use Rattle.skips_plan.proofs.Fates.{marks, done-pending, Item, item, msgs, all, In, find-in, In-fates, find-fate}
+use Rattle.skips_plan.proofs.Runs.{Event, Push, pushes, Frame, Far, Past, whole, over, waits, Settled, due, late, state, ahead, Sound, Good, Runs}
+use Rattle.skips_plan.proofs.Pushed.{was, is, away, push-set, push-old, push-loose}
 
 -- a message with a chunk that is still to come
 its-was : (p : Item) (f : Frag) {r : List Frag} (i : In-fates (p .fates) f r) → p ≡ was (p .first) (p .ppi) (i .u) f (i .v)

@@ -6,9 +6,9 @@ use mathlib.Core.List.{List, [], _∷_, _++_, map, append-assoc, nil≢cons, hea
 use mathlib.Core.Logic.{_⊎_, inl, inr}
 use Prim.Native.Nat.{ℕ}
 use Rattle.fragments.specs.Frag.{Frag}
-use Rattle.arrival.specs.Plan.{Carried, chunk, Order, none-left, one-of}
-use Rattle.arrival.proofs.Shape.{Mark, came, due, missing}
-use Rattle.arrival.proofs.Loose.{Part, part, missing-of, was, is}
+use Rattle.arrival_plan.specs.Plan.{Carried, chunk, Order, none-left, one-of}
+use Rattle.arrival_plan.proofs.Shape.{Mark, came, due, missing}
+use Rattle.arrival_plan.proofs.Loose.{Part, part, missing-of, was, is}
 
 -- ── the first of an order ──
 

@@ -11,9 +11,9 @@ use Rattle.serial.specs.Serial.{next}
 use Rattle.fragments.specs.Frag.{Frag, begins, ends, hasTsn, tsnBefore}
 use Rattle.fragments.specs.Words.{size}
 use Rattle.fragment_sets.specs.Sets.{rises, complete}
-use Rattle.arrival.specs.Plan.{tsnAt, null, Later, Cut}
-use Rattle.arrival.proofs.Lists.{and-both, and-first, and-last, Is}
-use Rattle.arrival.proofs.Numbers.{tsn-lt, tsn-ge, tsn-other, tsn-same, next-at}
+use Rattle.arrival_plan.specs.Plan.{tsnAt, null, Later, Cut}
+use Rattle.arrival_plan.proofs.Lists.{and-both, and-first, and-last, Is}
+use Rattle.arrival_plan.proofs.Numbers.{tsn-lt, tsn-ge, tsn-other, tsn-same, next-at}
 
 -- ── marks ──
 

@@ -1,8 +1,8 @@
 -- What holds of each entry of a list, of lists that are put together, cut, mapped, or put in another order.
 -- Assumes nothing.
 use mathlib.Core.List.{List, [], _∷_, _++_, map}
-use Rattle.arrival.specs.Plan.{Order, none-left, one-of}
-use Rattle.arrival.proofs.Maps.{Each}
+use Rattle.arrival_plan.specs.Plan.{Order, none-left, one-of}
+use Rattle.arrival_plan.proofs.Maps.{Each}
 
 module _ {A : Type 0} (P : A → Type 0) where
   pub each-parts : (a b : List A) → Each P (a ++ b) → Each P a × Each P b

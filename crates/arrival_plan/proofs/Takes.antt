@@ -13,9 +13,9 @@ use Rattle.fragments.specs.Frag.{Frag, ends, ssnOf, hasSsn}
 use Rattle.fragments.specs.Words.{joined, while}
 use Rattle.fragment_sets.specs.Sets.{complete}
 use Rattle.reassembly_state.specs.Model.{Queue, queue, throughEnd, readySet, movedOn, Turn, firstSsn, firstPpi, orderedTurn, finishedTurn, turn, readable}
-use Rattle.arrival.specs.Plan.{null, Later, Cut, Message, afterTake, given}
-use Rattle.arrival.proofs.Lists.{Is, while-is}
-use Rattle.arrival.proofs.Numbers.{ssn-ge}
+use Rattle.arrival_plan.specs.Plan.{null, Later, Cut, Message, afterTake, given}
+use Rattle.arrival_plan.proofs.Lists.{Is, while-is}
+use Rattle.arrival_plan.proofs.Numbers.{ssn-ge}
 
 -- ── a take by what comes out: one message, or none ──
 

@@ -5,9 +5,9 @@ use mathlib.Core.List.{List, [], _∷_, _++_}
 use Prim.Native.Nat.{ℕ, zero, suc, _≤_}
 use lib.ListN.{length}
 use Rattle.reassembly_state.specs.Model.{Queue, held, readable}
-use Rattle.arrival.specs.Plan.{Msg, Plan, Carried, chunksOf, Event, Push, Take, pushes, afterPush, afterTake, final, out, Roomy, Order, Came, starts, Arrival, takes, Drained, Unrefused}
-use Rattle.arrival.proofs.Sorts.{arrives-all}
-use Rattle.arrival.proofs.Drains.{drains}
+use Rattle.arrival_plan.specs.Plan.{Msg, Plan, Carried, chunksOf, Event, Push, Take, pushes, afterPush, afterTake, final, out, Roomy, Order, Came, starts, Arrival, takes, Drained, Unrefused}
+use Rattle.arrival_plan.proofs.Sorts.{arrives-all}
+use Rattle.arrival_plan.proofs.Drains.{drains}
 
 -- the plan's chunks pushed once each, in any order, takes anywhere between, until nothing is readable: everything came out
 pub arrival : Arrival

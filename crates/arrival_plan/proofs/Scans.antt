@@ -13,10 +13,10 @@ use Rattle.serial.specs.Serial.{next}
 use Rattle.fragments.specs.Frag.{Frag, begins, ends, hasTsn}
 use Rattle.loose_fragments.specs.Loose.{span, startsBy, scan, scanned}
 use Rattle.loose_fragments.specs.declared.Span.{Span}
-use Rattle.arrival.specs.Plan.{tsnAt, null, Later, Cut}
-use Rattle.arrival.proofs.Lists.{Is, and-both, and-first, and-last, is-append}
-use Rattle.arrival.proofs.Numbers.{next-at}
-use Rattle.arrival.proofs.Shape.{Mark, came, due, all-of, arrived, Done, Open, Within, above, after-gap, next-is}
+use Rattle.arrival_plan.specs.Plan.{tsnAt, null, Later, Cut}
+use Rattle.arrival_plan.proofs.Lists.{Is, and-both, and-first, and-last, is-append}
+use Rattle.arrival_plan.proofs.Numbers.{next-at}
+use Rattle.arrival_plan.proofs.Shape.{Mark, came, due, all-of, arrived, Done, Open, Within, above, after-gap, next-is}
 
 -- what a scan finds: the message, and what stood before and after it
 pub data Scan : Type 0 where

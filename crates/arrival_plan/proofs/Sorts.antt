@@ -11,9 +11,9 @@ use lib.ListN.{length}
 use borrow.Author.Tests.{leb-true, leb-false}
 use Rattle.fragments.specs.Frag.{Frag}
 use Rattle.reassembly_state.specs.Model.{readable}
-use Rattle.arrival.specs.Plan.{Msg, Cut, Whole, Apart, Unordered, Plan, Carried, chunk, fragsOf, chunksOf, Message, message, Event, pushes, final, out, Roomy, Order, none-left, one-of, Came, starts, Unrefused}
-use Rattle.arrival.proofs.Loose.{Listed}
-use Rattle.arrival.proofs.Arrived.{append-nil-both, arrival-listed}
+use Rattle.arrival_plan.specs.Plan.{Msg, Cut, Whole, Apart, Unordered, Plan, Carried, chunk, fragsOf, chunksOf, Message, message, Event, pushes, final, out, Roomy, Order, none-left, one-of, Came, starts, Unrefused}
+use Rattle.arrival_plan.proofs.Loose.{Listed}
+use Rattle.arrival_plan.proofs.Arrived.{append-nil-both, arrival-listed}
 
 -- ── orders of two blocks that change places ──
 

@@ -12,10 +12,10 @@ use Rattle.serial.specs.Serial.{next}
 use Rattle.fragments.specs.Frag.{Frag, begins, ends, hasTsn}
 use Rattle.fragments.specs.Words.{size, find}
 use Rattle.loose_fragments.specs.Loose.{previous, runs, run, reach}
-use Rattle.arrival.specs.Plan.{tsnAt, null, Later, Cut}
-use Rattle.arrival.proofs.Lists.{is-append, size-append, find-skip, find-none}
-use Rattle.arrival.proofs.Numbers.{next-at, previous-at, tsn-same}
-use Rattle.arrival.proofs.Shape.{Mark, came, due, all-of, arrived, all-append, arrived-small, Within, within-append, wider, below, above, frag-of, Places, places-within, places-cut, split}
+use Rattle.arrival_plan.specs.Plan.{tsnAt, null, Later, Cut}
+use Rattle.arrival_plan.proofs.Lists.{is-append, size-append, find-skip, find-none}
+use Rattle.arrival_plan.proofs.Numbers.{next-at, previous-at, tsn-same}
+use Rattle.arrival_plan.proofs.Shape.{Mark, came, due, all-of, arrived, all-append, arrived-small, Within, within-append, wider, below, above, frag-of, Places, places-within, places-cut, split}
 
 -- ── a run along a chain of marks ──
 

@@ -5,7 +5,7 @@ use mathlib.Core.List.{List, [], _∷_, _++_, map}
 use Prim.Native.Nat.{_+_}
 use native.Mathlib.Omega.{arith}
 use lib.ListN.{length, length-append}
-use Rattle.arrival.specs.Plan.{Order, none-left, one-of, Merge, neither, left, right}
+use Rattle.arrival_plan.specs.Plan.{Order, none-left, one-of, Merge, neither, left, right}
 
 module _ {A B : Type 0} (f : A → B) where
   pub map-append : (xs ys : List A) → map f (xs ++ ys) ≡ map f xs ++ map f ys

@@ -12,14 +12,14 @@ use Rattle.fragments.specs.Frag.{Frag, hasSsn}
 use Rattle.fragments.specs.Words.{size, joined}
 use Rattle.fragment_sets.specs.Sets.{complete}
 use Rattle.reassembly_state.specs.Model.{Queue, queue, held, roomFor, readable}
-use Rattle.arrival.specs.Plan.{Msg, Cut, Ordered, Carried, chunk, fragsOf, chunksOf, Message, message, inOrder, Event, Push, Take, pushes, afterTake, final, out, Roomy, Order, none-left, one-of, Merge, neither, left, right, Came, starts, Unrefused}
-use Rattle.arrival.proofs.Lists.{Is}
-use Rattle.arrival.proofs.Shape.{Mark, came, due, all-of, arrived, missing, Done, Open, done-or-open, done-all, done-missing, length-all, complete-done, complete-open}
-use Rattle.arrival.proofs.Pushes.{Enters}
-use Rattle.arrival.proofs.Loose.{Listed, Part, part, msg, held-of, missing-of, Opens, opens-append, opens-split, same-msgs, was, is, is-listed, without, its-cut, loose-open, loose-done}
-use Rattle.arrival.proofs.Sets.{has-it, high-sets, later-sets, is-ordered, set-pushed}
-use Rattle.arrival.proofs.Takes.{Gives, mess, take-oldest, take-open, take-whole}
-use Rattle.arrival.proofs.Locate.{Picked, order-nil, order-cons, At, chunks, at-chunks, in-parts}
+use Rattle.arrival_plan.specs.Plan.{Msg, Cut, Ordered, Carried, chunk, fragsOf, chunksOf, Message, message, inOrder, Event, Push, Take, pushes, afterTake, final, out, Roomy, Order, none-left, one-of, Merge, neither, left, right, Came, starts, Unrefused}
+use Rattle.arrival_plan.proofs.Lists.{Is}
+use Rattle.arrival_plan.proofs.Shape.{Mark, came, due, all-of, arrived, missing, Done, Open, done-or-open, done-all, done-missing, length-all, complete-done, complete-open}
+use Rattle.arrival_plan.proofs.Pushes.{Enters}
+use Rattle.arrival_plan.proofs.Loose.{Listed, Part, part, msg, held-of, missing-of, Opens, opens-append, opens-split, same-msgs, was, is, is-listed, without, its-cut, loose-open, loose-done}
+use Rattle.arrival_plan.proofs.Sets.{has-it, high-sets, later-sets, is-ordered, set-pushed}
+use Rattle.arrival_plan.proofs.Takes.{Gives, mess, take-oldest, take-open, take-whole}
+use Rattle.arrival_plan.proofs.Locate.{Picked, order-nil, order-cons, At, chunks, at-chunks, in-parts}
 
 -- ── nothing is due ──
 

@@ -9,18 +9,18 @@ use native.Mathlib.Omega.{arith}
 use lib.ListN.{length, length-append, length-map}
 use Rattle.fragments.specs.Frag.{Frag}
 use Rattle.reassembly_state.specs.Model.{Queue, roomFor}
-use Rattle.arrival.specs.Plan.{Msg, chunk, fragsOf, Message, message}
-use Rattle.arrival.proofs.Shape.{Mark, came, arrived, Done, Open, done-or-open, done-all}
-use Rattle.arrival.proofs.Shape as shape
-use Rattle.arrival.proofs.Pushes.{Enters}
-use Rattle.arrival.proofs.Loose as loose
-use Rattle.arrival.proofs.Loose.{Listed, Part, part, msg, held-of, Opens, opens-append, opens-split}
-use Rattle.arrival.proofs.Sets as sets
-use Rattle.arrival.proofs.Sorts.{swap}
-use Rattle.arrival.proofs.Arrived.{cuts-snoc, frags-snoc}
-use Rattle.arrival_with_skips.proofs.Each.{each-at, each-change, each-without}
-use Rattle.arrival_with_skips.proofs.Fates.{Fate, held, coming, lost, marks, Safe, done-pending, marks-append, safe-came, bare-away, Item, item, part-of, parts, msg-of, msgs, all}
-use Rattle.arrival_with_skips.proofs.Runs.{Event, Push, Frame, Far, Past, whole, over, its, waits, Settled, due, numbered, state, Sound, Good, Owed, Runs, by-push}
+use Rattle.arrival_plan.specs.Plan.{Msg, chunk, fragsOf, Message, message}
+use Rattle.arrival_plan.proofs.Shape.{Mark, came, arrived, Done, Open, done-or-open, done-all}
+use Rattle.arrival_plan.proofs.Shape as shape
+use Rattle.arrival_plan.proofs.Pushes.{Enters}
+use Rattle.arrival_plan.proofs.Loose as loose
+use Rattle.arrival_plan.proofs.Loose.{Listed, Part, part, msg, held-of, Opens, opens-append, opens-split}
+use Rattle.arrival_plan.proofs.Sets as sets
+use Rattle.arrival_plan.proofs.Sorts.{swap}
+use Rattle.arrival_plan.proofs.Arrived.{cuts-snoc, frags-snoc}
+use Rattle.skips_plan.proofs.Each.{each-at, each-change, each-without}
+use Rattle.skips_plan.proofs.Fates.{Fate, held, coming, lost, marks, Safe, done-pending, marks-append, safe-came, bare-away, Item, item, part-of, parts, msg-of, msgs, all}
+use Rattle.skips_plan.proofs.Runs.{Event, Push, Frame, Far, Past, whole, over, its, waits, Settled, due, numbered, state, Sound, Good, Owed, Runs, by-push}
 
 -- ── a message, before and after its chunk came or was turned away ──
 

@@ -11,12 +11,12 @@ use Rattle.fragments.specs.Frag.{Frag, hasTsn, tsnBefore}
 use Rattle.fragments.specs.Words.{any, placed}
 use Rattle.loose_fragments.specs.Loose.{reach}
 use Rattle.reassembly_state.specs.Model.{queue, roomFor}
-use Rattle.arrival.specs.Plan.{Msg, Cut, Whole, chunk}
-use Rattle.arrival.proofs.Lists.{Is, is-append, any-none, placed-at}
-use Rattle.arrival.proofs.Shape.{Mark, came, due, all-of, arrived, missing, Done, Open, all-append, arrived-append, length-all, Within, within-append, wider, below, above, places-within, places-cut, around, split}
-use Rattle.arrival.proofs.Scans.{Scan, nothing, found, seek, passed, passed-nothing, passed-found, passed-append, seek-open, seek-done}
-use Rattle.arrival.proofs.Runs.{reach-small}
-use Rattle.arrival.proofs.Pushes.{Enters, loose-stays, loose-moves}
+use Rattle.arrival_plan.specs.Plan.{Msg, Cut, Whole, chunk}
+use Rattle.arrival_plan.proofs.Lists.{Is, is-append, any-none, placed-at}
+use Rattle.arrival_plan.proofs.Shape.{Mark, came, due, all-of, arrived, missing, Done, Open, all-append, arrived-append, length-all, Within, within-append, wider, below, above, places-within, places-cut, around, split}
+use Rattle.arrival_plan.proofs.Scans.{Scan, nothing, found, seek, passed, passed-nothing, passed-found, passed-append, seek-open, seek-done}
+use Rattle.arrival_plan.proofs.Runs.{reach-small}
+use Rattle.arrival_plan.proofs.Pushes.{Enters, loose-stays, loose-moves}
 
 -- ── a message under way ──
 

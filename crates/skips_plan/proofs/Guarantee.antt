@@ -9,18 +9,18 @@ use native.Mathlib.Decide.{decLt}
 use native.Mathlib.Omega.{arith}
 use lib.ListN.{length}
 use Rattle.fragments.specs.Frag.{Frag, ssnOf}
-use Rattle.arrival.specs.Plan.{Msg, Cut, Whole, Numbered, Ordered, Plan, Message, inOrder, Carried, chunk, fragsOf, chunksOf, Order, none-left, one-of, Merge, neither, left, right, starts}
-use Rattle.arrival.proofs.Shape.{all-of, arrived, Open, length-all, Places, places-cut}
-use Rattle.arrival.proofs.Loose.{Listed, held-of, Opens}
-use Rattle.arrival.proofs.Sorts.{sorted, listed-sorted, flat, sorted-flat, sorted-back, flat-chunks}
-use Rattle.arrival.proofs.Maps.{Each, each-append}
-use Rattle.arrival_with_skips.proofs.Each.{each-parts, each-back, each-unmap}
-use Rattle.arrival_with_skips.proofs.Fates.{Fate, held, coming, lost, marks, pending, Safe, safe-open, length-marks, Item, item, parts, msg-of, msgs, all}
-use Rattle.arrival_with_skips.proofs.Runs.{Event, Push, Take, SkipOrdered, SkipUnordered, pushes, Frame, Within, Far, Marked, GivenUp, End, Picks, no-more, leaves, Passed, Pieces, Outcome, Past, waits, due, late, numbered, state, ahead, Sound, Good, Runs}
-use Rattle.arrival_with_skips.proofs.SkippedLoose.{skip-loose}
-use Rattle.arrival_with_skips.proofs.SkippedSets.{ordered-behind, skip-sets}
-use Rattle.arrival_with_skips.proofs.Taken.{Idle, idle-held, idle-waits, take-step, all-taken}
-use Rattle.arrival_with_skips.proofs.Located.{push-step}
+use Rattle.arrival_plan.specs.Plan.{Msg, Cut, Whole, Numbered, Ordered, Plan, Message, inOrder, Carried, chunk, fragsOf, chunksOf, Order, none-left, one-of, Merge, neither, left, right, starts}
+use Rattle.arrival_plan.proofs.Shape.{all-of, arrived, Open, length-all, Places, places-cut}
+use Rattle.arrival_plan.proofs.Loose.{Listed, held-of, Opens}
+use Rattle.arrival_plan.proofs.Sorts.{sorted, listed-sorted, flat, sorted-flat, sorted-back, flat-chunks}
+use Rattle.arrival_plan.proofs.Maps.{Each, each-append}
+use Rattle.skips_plan.proofs.Each.{each-parts, each-back, each-unmap}
+use Rattle.skips_plan.proofs.Fates.{Fate, held, coming, lost, marks, pending, Safe, safe-open, length-marks, Item, item, parts, msg-of, msgs, all}
+use Rattle.skips_plan.proofs.Runs.{Event, Push, Take, SkipOrdered, SkipUnordered, pushes, Frame, Within, Far, Marked, GivenUp, End, Picks, no-more, leaves, Passed, Pieces, Outcome, Past, waits, due, late, numbered, state, ahead, Sound, Good, Runs}
+use Rattle.skips_plan.proofs.SkippedLoose.{skip-loose}
+use Rattle.skips_plan.proofs.SkippedSets.{ordered-behind, skip-sets}
+use Rattle.skips_plan.proofs.Taken.{Idle, idle-held, idle-waits, take-step, all-taken}
+use Rattle.skips_plan.proofs.Located.{push-step}
 
 order-same : {A : Type 0} (l : List A) → Order A l l
 order-same [] = none-left

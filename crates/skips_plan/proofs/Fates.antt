@@ -6,10 +6,10 @@ use mathlib.Core.Logic.{_⊎_, inl, inr}
 use Prim.Native.Nat.{ℕ, suc}
 use lib.ListN.{length}
 use Rattle.fragments.specs.Frag.{Frag}
-use Rattle.arrival.specs.Plan.{Msg}
-use Rattle.arrival.proofs.Shape.{Mark, came, due, all-of, arrived, Done, Open}
-use Rattle.arrival.proofs.Loose.{Part, part, msg}
-use Rattle.arrival.proofs.Sorts.{In-first, In-second, which}
+use Rattle.arrival_plan.specs.Plan.{Msg}
+use Rattle.arrival_plan.proofs.Shape.{Mark, came, due, all-of, arrived, Done, Open}
+use Rattle.arrival_plan.proofs.Loose.{Part, part, msg}
+use Rattle.arrival_plan.proofs.Sorts.{In-first, In-second, which}
 
 pub data Fate : Type 0 where
   held : Frag → Fate

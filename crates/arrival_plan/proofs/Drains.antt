@@ -9,7 +9,7 @@ use lib.ListN.{length, drop, length-append, length-drop}
 use borrow.Author.Tests.{lt-ltb, ltb-true}
 use Rattle.fragments.specs.Frag.{Frag}
 use Rattle.reassembly_state.specs.Model.{Queue, queue, held, throughEnd, readySet, orderedTurn, finishedTurn, turn, readable}
-use Rattle.arrival.specs.Plan.{afterTake, final, takes, Drained}
+use Rattle.arrival_plan.specs.Plan.{afterTake, final, takes, Drained}
 
 length-held : (f u o : List Frag) → length (f ++ (u ++ o)) ≡ length f + (length u + length o)
 length-held f u o = length-append f (u ++ o) ∙ ap (λ (n : ℕ). length f + n) (length-append u o)

@@ -11,7 +11,7 @@ use borrow.Author.Tests.{lt-ltb, le-ltb, eq-eqb, ne-eqb}
 use Rattle.serial.specs.Serial.{next, ahead, before}
 use Rattle.serial.specs.Facts.{arc}
 use Rattle.loose_fragments.specs.Loose.{previous}
-use Rattle.arrival.specs.Plan.{tsnAt}
+use Rattle.arrival_plan.specs.Plan.{tsnAt}
 
 -- ── TSNs, by their places in the arc ──
 

@@ -11,15 +11,15 @@ use Rattle.wire.specs.Refusal.{none}
 use Rattle.fragments.specs.Frag.{Frag, ssnOf}
 use Rattle.reassembly_state.specs.Model as model
 use Rattle.reassembly_state.specs.Model.{Queue, queue, roomFor, push, readable, skipOrdered, skipUnordered}
-use Rattle.arrival.specs.Plan.{Msg, tsnAt, Ordered, Carried, fragsOf, Message, message, inOrder, afterPush, afterTake, given, Order, Merge}
-use Rattle.arrival.proofs.Shape.{Done}
-use Rattle.arrival.proofs.Loose.{Listed, held-of, Opens}
-use Rattle.arrival.proofs.Locate.{chunks}
-use Rattle.arrival.proofs.Pushes.{Enters}
-use Rattle.arrival.proofs.Takes.{Gives}
-use Rattle.arrival.proofs.Arrived.{Cuts}
-use Rattle.arrival.proofs.Maps.{Each}
-use Rattle.arrival_with_skips.proofs.Fates.{pending, Safe, Bare, marks, Item, parts, msg-of, msgs, all}
+use Rattle.arrival_plan.specs.Plan.{Msg, tsnAt, Ordered, Carried, fragsOf, Message, message, inOrder, afterPush, afterTake, given, Order, Merge}
+use Rattle.arrival_plan.proofs.Shape.{Done}
+use Rattle.arrival_plan.proofs.Loose.{Listed, held-of, Opens}
+use Rattle.arrival_plan.proofs.Locate.{chunks}
+use Rattle.arrival_plan.proofs.Pushes.{Enters}
+use Rattle.arrival_plan.proofs.Takes.{Gives}
+use Rattle.arrival_plan.proofs.Arrived.{Cuts}
+use Rattle.arrival_plan.proofs.Maps.{Each}
+use Rattle.skips_plan.proofs.Fates.{pending, Safe, Bare, marks, Item, parts, msg-of, msgs, all}
 
 -- ── events ──
 

@@ -11,19 +11,19 @@ use Rattle.fragments.specs.Frag.{Frag, hasSsn}
 use Rattle.fragments.specs.Words.{joined}
 use Rattle.fragment_sets.specs.Sets.{complete}
 use Rattle.reassembly_state.specs.Model.{Queue, queue, readable}
-use Rattle.arrival.specs.Plan.{Msg, Cut, Ordered, fragsOf, Message, message, inOrder, one-of, left, right}
-use Rattle.arrival.proofs.Lists.{Is}
-use Rattle.arrival.proofs.Shape.{Mark, came, due, all-of, arrived, Done, Open, done-or-open, done-all, length-all, complete-done, complete-open}
-use Rattle.arrival.proofs.Loose.{held-of}
-use Rattle.arrival.proofs.Sets.{has-it, high-sets, later-sets}
-use Rattle.arrival.proofs.Takes.{Gives, mess, take-oldest, take-open, take-waiting}
-use Rattle.arrival.proofs.Arrived.{whole-set}
-use Rattle.arrival.proofs.Maps.{Each, each-append}
-use Rattle.arrival_with_skips.proofs.Each.{each-parts, each-change}
-use Rattle.arrival_with_skips.proofs.Fates.{marks, bare-arrived, emptied, emptied-bare, emptied-pending, emptied-all, safe-done, Item, item, part-of, parts, msg-of, msgs, all, all-append}
-use Rattle.arrival_with_skips.proofs.Runs as runs
-use Rattle.arrival_with_skips.proofs.Runs.{Event, Take, Frame, takes, Far, farther, Outcome, Past, whole, over, its, waits, Settled, late, numbered, state, Sound, Good, Owed, Runs, by-take}
-use Rattle.arrival_with_skips.proofs.SkippedSets.{ordered-behind, waits-append}
+use Rattle.arrival_plan.specs.Plan.{Msg, Cut, Ordered, fragsOf, Message, message, inOrder, one-of, left, right}
+use Rattle.arrival_plan.proofs.Lists.{Is}
+use Rattle.arrival_plan.proofs.Shape.{Mark, came, due, all-of, arrived, Done, Open, done-or-open, done-all, length-all, complete-done, complete-open}
+use Rattle.arrival_plan.proofs.Loose.{held-of}
+use Rattle.arrival_plan.proofs.Sets.{has-it, high-sets, later-sets}
+use Rattle.arrival_plan.proofs.Takes.{Gives, mess, take-oldest, take-open, take-waiting}
+use Rattle.arrival_plan.proofs.Arrived.{whole-set}
+use Rattle.arrival_plan.proofs.Maps.{Each, each-append}
+use Rattle.skips_plan.proofs.Each.{each-parts, each-change}
+use Rattle.skips_plan.proofs.Fates.{marks, bare-arrived, emptied, emptied-bare, emptied-pending, emptied-all, safe-done, Item, item, part-of, parts, msg-of, msgs, all, all-append}
+use Rattle.skips_plan.proofs.Runs as runs
+use Rattle.skips_plan.proofs.Runs.{Event, Take, Frame, takes, Far, farther, Outcome, Past, whole, over, its, waits, Settled, late, numbered, state, Sound, Good, Owed, Runs, by-take}
+use Rattle.skips_plan.proofs.SkippedSets.{ordered-behind, waits-append}
 
 -- ── which one waits first ──
 

@@ -13,8 +13,8 @@ use Rattle.fragments.specs.Words.{size, joined, any, while, past, find, placed}
 use Rattle.fragment_sets.specs.Sets.{setOf, rises, complete, joins, grownSet, stored}
 use Rattle.loose_fragments.specs.Loose.{runs, run, reach, startsBy, scan}
 use Rattle.reassembly_state.specs.Model.{queue, roomFor, keepOrdered, pushOrdered, moveRun, keepLoose, pushUnordered, push, readySet, movedOn, firstSsn, firstPpi, orderedTurn, finishedTurn, turn, readable}
-use Rattle.arrival.specs.Plan.{Msg, tsnAt, Plan, Carried, chunk, chunksOf, Event, Push, Take, pushes, final, out, Order, none-left, one-of, Came, starts, Unrefused}
-use Rattle.arrival.proofs.Whole.{arrival, unrefused}
+use Rattle.arrival_plan.specs.Plan.{Msg, tsnAt, Plan, Carried, chunk, chunksOf, Event, Push, Take, pushes, final, out, Order, none-left, one-of, Came, starts, Unrefused}
+use Rattle.arrival_plan.proofs.Whole.{arrival, unrefused}
 
 -- of stream 7, with identifier 51
 abbrev frag : ℕ → ℕ → Bool → Bool → List ℕ → Frag

@@ -12,12 +12,12 @@ use Rattle.fragments.specs.Frag.{Frag, ssnOf, hasTsn, tsnBefore, hasSsn, ssnBef
 use Rattle.fragments.specs.Words.{size, any, placed}
 use Rattle.fragment_sets.specs.Sets.{setOf, stored}
 use Rattle.reassembly_state.specs.Model.{queue, roomFor}
-use Rattle.arrival.specs.Plan.{Later, Cut, Whole, Numbered, Ordered, chunk}
-use Rattle.arrival.proofs.Lists.{Is, Is-ppi, size-append, is-append, any-none, placed-at, set-at, stored-at}
-use Rattle.arrival.proofs.Numbers.{ssn-lt, ssn-ge}
-use Rattle.arrival.proofs.Shape.{Mark, came, due, all-of, arrived, all-append, arrived-append, arrived-small, length-all, below, above, around, split}
-use Rattle.arrival.proofs.Pushes.{Enters, set-push, set-old}
-use Rattle.arrival.proofs.Loose.{Part, part, msg, held-of, held-append, same-msgs, was, is}
+use Rattle.arrival_plan.specs.Plan.{Later, Cut, Whole, Numbered, Ordered, chunk}
+use Rattle.arrival_plan.proofs.Lists.{Is, Is-ppi, size-append, is-append, any-none, placed-at, set-at, stored-at}
+use Rattle.arrival_plan.proofs.Numbers.{ssn-lt, ssn-ge}
+use Rattle.arrival_plan.proofs.Shape.{Mark, came, due, all-of, arrived, all-append, arrived-append, arrived-small, length-all, below, above, around, split}
+use Rattle.arrival_plan.proofs.Pushes.{Enters, set-push, set-old}
+use Rattle.arrival_plan.proofs.Loose.{Part, part, msg, held-of, held-append, same-msgs, was, is}
 
 -- ── numbers ──
 

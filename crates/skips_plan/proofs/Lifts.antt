@@ -5,9 +5,9 @@ use mathlib.Core.List.{List, [], _∷_, _++_, map, nil≢cons, cons≢nil, head-
 use Prim.Native.Nat.{ℕ, zero, suc, _+_, _<_, _≤_}
 use native.Mathlib.Omega.{arith}
 use lib.ListN.{take, drop}
-use Rattle.arrival.specs.Plan.{Msg, Message, message, inOrder, Order, none-left, one-of, Merge, neither, left, right}
-use Rattle.arrival.proofs.Maps.{map-append}
-use Rattle.arrival_with_skips.proofs.Runs.{Picks, no-more, takes, leaves}
+use Rattle.arrival_plan.specs.Plan.{Msg, Message, message, inOrder, Order, none-left, one-of, Merge, neither, left, right}
+use Rattle.arrival_plan.proofs.Maps.{map-append}
+use Rattle.skips_plan.proofs.Runs.{Picks, no-more, takes, leaves}
 
 module _ {A B : Type 0} (f : A → B) where
   -- a list in front of another

@@ -11,14 +11,14 @@ use borrow.Author.Tests.{leb-true, leb-false, lt-leb}
 use Rattle.fragments.specs.Frag.{Frag}
 use Rattle.fragments.specs.Words.{past}
 use Rattle.reassembly_state.specs.Model.{queue, notAfter, skipUnordered}
-use Rattle.arrival.specs.Plan.{Msg, tsnAt, fragsOf}
-use Rattle.arrival.proofs.Lists.{Is, past-stop, past-none}
-use Rattle.arrival.proofs.Numbers.{tsn-lt, tsn-ge}
-use Rattle.arrival.proofs.Shape.{all-of, arrived, Open, length-all, Places, Within, within-append, wider, places-within, places-cut}
-use Rattle.arrival.proofs.Loose.{Listed, held-of, Opens, uno-within}
-use Rattle.arrival.proofs.Maps.{Each}
-use Rattle.arrival_with_skips.proofs.Fates.{Fate, held, coming, lost, marks, pending, Safe, length-marks, Item, item, parts, msgs, all}
-use Rattle.arrival_with_skips.proofs.Runs.{Event, SkipUnordered, Frame, Place, waits, due, state, Sound, Good, Runs, by-skip-unordered}
+use Rattle.arrival_plan.specs.Plan.{Msg, tsnAt, fragsOf}
+use Rattle.arrival_plan.proofs.Lists.{Is, past-stop, past-none}
+use Rattle.arrival_plan.proofs.Numbers.{tsn-lt, tsn-ge}
+use Rattle.arrival_plan.proofs.Shape.{all-of, arrived, Open, length-all, Places, Within, within-append, wider, places-within, places-cut}
+use Rattle.arrival_plan.proofs.Loose.{Listed, held-of, Opens, uno-within}
+use Rattle.arrival_plan.proofs.Maps.{Each}
+use Rattle.skips_plan.proofs.Fates.{Fate, held, coming, lost, marks, pending, Safe, length-marks, Item, item, parts, msgs, all}
+use Rattle.skips_plan.proofs.Runs.{Event, SkipUnordered, Frame, Place, waits, due, state, Sound, Good, Runs, by-skip-unordered}
 
 -- ── what is lost ──
 

@@ -15,16 +15,16 @@ use Rattle.fragments.specs.Frag.{Frag, ssnOf, hasSsn}
 use Rattle.fragment_sets.specs.Sets.{complete, skipped}
 use Rattle.fragment_sets.proofs.Sets.{skipped-nil, skipped-cons}
 use Rattle.reassembly_state.specs.Model.{Queue, queue, skipOrdered}
-use Rattle.arrival.specs.Plan.{Msg, Ordered, fragsOf, Message, message, inOrder}
-use Rattle.arrival.proofs.Lists.{Is, while-is, past-is}
-use Rattle.arrival.proofs.Numbers.{ssn-lt, ssn-ge}
-use Rattle.arrival.proofs.Shape.{arrived, Done, Open, done-or-open, length-all, complete-done, complete-open}
-use Rattle.arrival.proofs.Loose.{msg, held-of, held-append}
-use Rattle.arrival.proofs.Sets.{has-it, high-sets}
-use Rattle.arrival.proofs.Maps.{Each, each-append}
-use Rattle.arrival_with_skips.proofs.Each.{each-parts}
-use Rattle.arrival_with_skips.proofs.Fates.{marks, Safe, bare-arrived, emptied, emptied-bare, emptied-pending, emptied-all, Item, item, part-of, parts, msg-of, msgs, all, all-append}
-use Rattle.arrival_with_skips.proofs.Runs.{Event, SkipOrdered, Frame, Far, Picks, takes, leaves, Passed, Outcome, Past, whole, over, its, waits, Settled, due, late, numbered, state, Sound, Good, Owed, Runs, by-skip-ordered}
+use Rattle.arrival_plan.specs.Plan.{Msg, Ordered, fragsOf, Message, message, inOrder}
+use Rattle.arrival_plan.proofs.Lists.{Is, while-is, past-is}
+use Rattle.arrival_plan.proofs.Numbers.{ssn-lt, ssn-ge}
+use Rattle.arrival_plan.proofs.Shape.{arrived, Done, Open, done-or-open, length-all, complete-done, complete-open}
+use Rattle.arrival_plan.proofs.Loose.{msg, held-of, held-append}
+use Rattle.arrival_plan.proofs.Sets.{has-it, high-sets}
+use Rattle.arrival_plan.proofs.Maps.{Each, each-append}
+use Rattle.skips_plan.proofs.Each.{each-parts}
+use Rattle.skips_plan.proofs.Fates.{marks, Safe, bare-arrived, emptied, emptied-bare, emptied-pending, emptied-all, Item, item, part-of, parts, msg-of, msgs, all, all-append}
+use Rattle.skips_plan.proofs.Runs.{Event, SkipOrdered, Frame, Far, Picks, takes, leaves, Passed, Outcome, Past, whole, over, its, waits, Settled, due, late, numbered, state, Sound, Good, Owed, Runs, by-skip-ordered}
 
 -- ── numbers ──
 
