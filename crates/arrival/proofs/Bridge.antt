@@ -28,9 +28,9 @@ use Rattle.reassembly_queue.specs.Queue.{stateOf, fresh}
 use Rattle.reassembly_state.proofs.Laws.{sound}
 use Rattle.reassembly_state.proofs.Laid.{view-lay, sound-lay}
 use Rattle.reassembly_theorems.proofs.Stays.{Good, taken-good, push-good, fresh-sound}
-use Rattle.arrival.specs.Plan as model
+use Rattle.arrival_plan.specs.Plan as model
 use Rattle.arrival.specs.Calls.{Chunk, Call, Push, Take, pushes, afterPush, ran, Roomy, Long, Came, given, out, Unrefused}
-use Rattle.arrival.proofs.Maps.{Each}
+use Rattle.arrival_plan.proofs.Maps.{Each}
 use Rattle.arrival.proofs.Planned.{fragOf, pieceOf, Of}
 
 -- ── the stream stays ──

@@ -15,9 +15,9 @@ use Rattle.reassembly_queue.specs.Queue.{stateOf, fresh}
 use Rattle.reassembly_state.proofs.Laws.{held-view}
 use Rattle.reassembly_theorems.proofs.Stays.{bytes-told}
 use Rattle.reassembly_theorems.proofs.Readable.{unreadable-nothing}
-use Rattle.arrival.specs.Plan as model
+use Rattle.arrival_plan.specs.Plan as model
 use Rattle.arrival.specs.Calls.{Chunk, Sent, chunksOf, Plan, Call, Push, Take, pushes, afterPush, ran, Roomy, Long, Came, message, inOrder, Run, Arrived, Arrival, Arrival-then-takes}
-use Rattle.arrival.proofs.Maps.{Each, order-map, merge-map, each-order}
+use Rattle.arrival_plan.proofs.Maps.{Each, order-map, merge-map, each-order}
 use Rattle.arrival.proofs.Planned.{pieceOf, cutOf, joined-bytes, Of, planned, plan-pieces, plan-stream}
 use Rattle.arrival.proofs.Bridge.{readable-is, told, events, event-pushes, Walked, walk, fresh-holds}
 

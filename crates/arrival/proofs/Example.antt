@@ -17,10 +17,10 @@ use Rattle.reassembly_state.specs.Limits.{fragsMost, bytesMost}
 use Rattle.reassembly_state.specs.Model.{Queue, queue, roomFor, keepOrdered, pushOrdered, moveRun, keepLoose, pushUnordered, push, readySet, movedOn, firstSsn, firstPpi, finishedTurn, orderedTurn, turn, readable}
 use Rattle.reassembly_state.specs.State.{State, fragmentOf, isReadable}
 use Rattle.reassembly_queue.specs.Queue.{stateOf, fresh}
-use Rattle.arrival.specs.Plan as model
-use Rattle.arrival.specs.Plan.{tsnAt, Order, none-left, one-of}
+use Rattle.arrival_plan.specs.Plan as model
+use Rattle.arrival_plan.specs.Plan.{tsnAt, Order, none-left, one-of}
 use Rattle.arrival.specs.Calls.{Chunk, Sent, Loose, Number, Part, chunksOf, Plan, Call, Push, Take, pushes, ran, message, out, Run, Arrived, Arrival}
-use Rattle.arrival.proofs.Maps.{Each, each-order}
+use Rattle.arrival_plan.proofs.Maps.{Each, each-order}
 use Rattle.arrival.proofs.Planned.{Of, plan-stream}
 use Rattle.arrival.proofs.Bridge.{readable-is, told, events, Walked, walk, fresh-holds, Long-on, back}
 

@@ -19,10 +19,10 @@ use Rattle.reassembly_state.specs.Model.{Queue, held, roomFor, keepOrdered, pus
 use Rattle.reassembly_state.specs.State.{State, fragmentOf, unsound, pushed, Read, layTaken, read}
 use Rattle.reassembly_queue.specs.Queue.{stateOf, fresh}
 use Rattle.reassembly_state.proofs.Laws.{held-view}
-use Rattle.arrival.specs.Plan as model
-use Rattle.arrival.specs.Plan.{Merge, neither, left, right}
+use Rattle.arrival_plan.specs.Plan as model
+use Rattle.arrival_plan.specs.Plan.{Merge, neither, left, right}
 use Rattle.arrival.specs.Calls.{Chunk, Sent, Call, Push, Take, pushes, afterPush, ran, Came, given, message, inOrder, out, Arrived}
-use Rattle.arrival.proofs.Maps.{order-length, merge-length, Each}
+use Rattle.arrival_plan.proofs.Maps.{order-length, merge-length, Each}
 use Rattle.arrival.proofs.Planned.{Of, fragOf, pieceOf}
 use Rattle.arrival.proofs.Bridge.{push-holds, push-told, read-is, told, events, Walked, walk, fresh-holds, Long-on, back}
 use Rattle.arrival.proofs.Example.{chunk}

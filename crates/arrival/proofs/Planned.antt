@@ -15,9 +15,9 @@ use Rattle.fragments.specs.Words.{joined}
 use Rattle.fragments.proofs.Pool.{joined-length}
 use Rattle.reassembly_state.specs.State.{fragmentOf}
 use Rattle.reassembly_state.proofs.Chunk.{chunk-ends, chunk-begins, chunk-ssn}
-use Rattle.arrival.specs.Plan as model
+use Rattle.arrival_plan.specs.Plan as model
 use Rattle.arrival.specs.Calls.{Chunk, Sent, Kind, Loose, Number, Bears, null, bytesOf, Part, Later, Cut, Whole, Ordered, Unordered, chunksOf, Absent, Distinct, Plan}
-use Rattle.arrival.proofs.Maps.{map-append, Each, each-append}
+use Rattle.arrival_plan.proofs.Maps.{map-append, Each, each-append}
 
 -- ── a chunk's fragment, a message's fragments ──
 

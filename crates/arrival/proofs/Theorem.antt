@@ -1,7 +1,7 @@
 -- Arrival order does not matter: the claims of specs/Calls, proved.
 -- Assumes nothing.
 use Rattle.arrival.specs.Calls.{Arrival, Arrival-then-takes, Arrived}
-use Rattle.arrival.proofs.Whole.{arrival, drained, unrefused}
+use Rattle.arrival_plan.proofs.Whole.{arrival, drained, unrefused}
 use Rattle.arrival.proofs.Calls.{arrival-of-calls, calls-then-takes}
 
 -- "Take until nothing is readable: ordered messages came out in number order, unordered ones in some order, each once and byte for byte, nothing is held, the byte count is 0."

@@ -13,7 +13,7 @@ use Rattle.reassembly_state.specs.Limits.{fragsMost, bytesMost}
 use Rattle.reassembly_state.specs.Model.{Message, noMessage, turn, roomFor}
 use Rattle.reassembly_state.specs.State.{State, view, fragments, fragmentOf, pushed, isReadable, Read, reads, read, numBytes}
 use Rattle.reassembly_queue.specs.Queue.{stateOf, fresh}
-use Rattle.arrival.specs.Plan.{tsnAt, Order, Merge}
+use Rattle.arrival_plan.specs.Plan.{tsnAt, Order, Merge}
 
 -- ── "one stream's messages" ──
 

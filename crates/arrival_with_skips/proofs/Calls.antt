@@ -19,21 +19,21 @@ use Rattle.reassembly_queue.specs.Queue.{stateOf, fresh}
 use Rattle.reassembly_state.proofs.Laws.{held-view}
 use Rattle.reassembly_theorems.proofs.Stays.{bytes-told}
 use Rattle.reassembly_theorems.proofs.Readable.{unreadable-nothing}
-use Rattle.arrival.specs.Plan as model
-use Rattle.arrival.specs.Plan.{Order, Merge}
+use Rattle.arrival_plan.specs.Plan as model
+use Rattle.arrival_plan.specs.Plan.{Order, Merge}
 use Rattle.arrival.specs.Calls.{Chunk, Sent, Loose, Whole, Unordered, bytesOf, chunksOf, Plan, Came, message, inOrder}
-use Rattle.arrival.proofs.Maps.{map-append, order-map, merge-map, Each, each-order}
+use Rattle.arrival_plan.proofs.Maps.{map-append, order-map, merge-map, Each, each-order}
 use Rattle.arrival.proofs.Planned.{fragOf, cutOf, pieceOf, joined-bytes, Of, planned, plan-pieces, plan-stream}
-use Rattle.arrival.proofs.Drains.{drains}
+use Rattle.arrival_plan.proofs.Drains.{drains}
 use Rattle.arrival.proofs.Bridge.{readable-is, told, fresh-holds}
 use Rattle.arrival.proofs.Calls.{told-in-order, told-loose}
 use Rattle.arrival_with_skips.specs.Skips.{Call, Push, Take, SkipOrdered, SkipUnordered, left, ran, out, AtEach, pushes, ssns, tsns, Roomy, Long, upTo, Touched, AllNeedless, Taken, piece, Run, Arrived, Always, Arrival, Arrival-then-takes}
-use Rattle.arrival_with_skips.proofs.Each.{each-parts, each-weaker, each-unmap}
-use Rattle.arrival_with_skips.proofs.Runs as runs
-use Rattle.arrival_with_skips.proofs.Runs.{Frame, End, Passed, Outcome}
-use Rattle.arrival_with_skips.proofs.Guarantee.{guarantee}
+use Rattle.skips_plan.proofs.Each.{each-parts, each-weaker, each-unmap}
+use Rattle.skips_plan.proofs.Runs as runs
+use Rattle.skips_plan.proofs.Runs.{Frame, End, Passed, Outcome}
+use Rattle.skips_plan.proofs.Guarantee.{guarantee}
 use Rattle.arrival_with_skips.proofs.Walk.{events, event-pushes, Walked, follow}
-use Rattle.arrival_with_skips.proofs.Lifts.{Two, two, Unmapped, order-unmap, Unmerged, merge-unmap, merge-on, Left, left-out, Parts, parts}
+use Rattle.skips_plan.proofs.Lifts.{Two, two, Unmapped, order-unmap, Unmerged, merge-unmap, merge-on, Left, left-out, Parts, parts}
 use Rattle.arrival_with_skips.proofs.Highest.{numbers-bound, numbers-known, placesUpTo, places-bound, places-arc, touched-all, within, reaches, needless}
 
 -- ── messages and their chunks ──

@@ -22,15 +22,15 @@ use Rattle.reassembly_state.specs.State.{State, fragments, fragmentOf, isReadab
 use Rattle.reassembly_queue.specs.Queue.{stateOf, fresh}
 use Rattle.reassembly_state.proofs.Laws.{held-view}
 use Rattle.reassembly_theorems.proofs.Stays.{bytes-told}
-use Rattle.arrival.specs.Plan.{tsnAt, Order, none-left, one-of, starts}
+use Rattle.arrival_plan.specs.Plan.{tsnAt, Order, none-left, one-of, starts}
 use Rattle.arrival.specs.Calls.{Chunk, chunksOf, message}
-use Rattle.arrival.proofs.Maps.{Each, each-order}
+use Rattle.arrival_plan.proofs.Maps.{Each, each-order}
 use Rattle.arrival.proofs.Planned.{Of, plan-stream}
 use Rattle.arrival.proofs.Bridge.{readable-is, told, fresh-holds}
 use Rattle.arrival.proofs.Example.{empty-0, three-0, three-1, three-2, three, two-0, two-1, one-0, one, os, us, plan, buffer}
 use Rattle.arrival_with_skips.specs.Skips.{Call, Push, Take, SkipOrdered, SkipUnordered, ran, out, AtEach, pushes, Roomy, Long, Named, AllInArc, AllNeedless, piece, Run, Arrived, Arrival}
-use Rattle.arrival_with_skips.proofs.Runs as model
-use Rattle.arrival_with_skips.proofs.Each.{each-parts}
+use Rattle.skips_plan.proofs.Runs as model
+use Rattle.skips_plan.proofs.Each.{each-parts}
 use Rattle.arrival_with_skips.proofs.Walk.{events, Walked, follow, Long-on, back}
 
 -- ── the calls ──

@@ -14,14 +14,14 @@ use Rattle.serial.specs.Serial.{before}
 use Rattle.chunk_payload_data.specs.Data.{dataSent}
 use Rattle.reassembly_state.specs.State.{fragmentOf}
 use Rattle.reassembly_state.proofs.Chunk.{chunk-ssn}
-use Rattle.arrival.specs.Plan.{tsnAt}
+use Rattle.arrival_plan.specs.Plan.{tsnAt}
 use Rattle.arrival.proofs.Planned.{fragOf, pieceOf}
 use Rattle.arrival.specs.Calls.{Chunk, Sent, Loose, Cut, Whole}
-use Rattle.arrival.proofs.Numbers.{tsn-lt, tsn-ge}
-use Rattle.arrival.proofs.Maps.{Each}
+use Rattle.arrival_plan.proofs.Numbers.{tsn-lt, tsn-ge}
+use Rattle.arrival_plan.proofs.Maps.{Each}
 use Rattle.arrival_with_skips.specs.Skips.{Call, Push, Take, SkipOrdered, SkipUnordered, ssns, tsns, Named, AllInArc, numbersUpTo, highest, AllAfter, Untouched, Touched, upTo, Needless, AllNeedless}
-use Rattle.arrival_with_skips.proofs.Each.{each-weaker}
-use Rattle.arrival_with_skips.proofs.Runs.{Event, SkipOrdered as skip, Frame, Place, Within, Far, Marked, GivenUp}
+use Rattle.skips_plan.proofs.Each.{each-weaker}
+use Rattle.skips_plan.proofs.Runs.{Event, SkipOrdered as skip, Frame, Place, Within, Far, Marked, GivenUp}
 use Rattle.arrival_with_skips.proofs.Walk.{events}
 
 -- ── numbers ──

@@ -1,13 +1,3 @@
-pub mod Each
-pub mod Fates
-pub mod Runs
-pub mod SkippedLoose
-pub mod SkippedSets
-pub mod Taken
-pub mod Pushed
-pub mod Located
-pub mod Guarantee
-pub mod Lifts
 pub mod Walk
 pub mod Highest
 pub mod Calls

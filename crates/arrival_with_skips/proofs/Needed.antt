@@ -18,15 +18,15 @@ use Rattle.reassembly_state.specs.Model.{Queue, held, roomFor, keepOrdered, pus
 use Rattle.reassembly_state.specs.State.{State, fragments, fragmentOf}
 use Rattle.reassembly_queue.specs.Queue.{stateOf, fresh}
 use Rattle.reassembly_state.proofs.Laws.{held-view}
-use Rattle.arrival.specs.Plan.{starts, Order}
+use Rattle.arrival_plan.specs.Plan.{starts, Order}
 use Rattle.arrival.specs.Calls.{Sent, chunksOf, Came, message, inOrder}
-use Rattle.arrival.proofs.Maps.{order-length, merge-length, Each}
+use Rattle.arrival_plan.proofs.Maps.{order-length, merge-length, Each}
 use Rattle.arrival.proofs.Planned.{Of}
 use Rattle.arrival.proofs.Bridge.{told, fresh-holds}
 use Rattle.arrival.proofs.Example.{empty-0, three-0, three-1, three-2, two-0, two-1, two, os, buffer}
 use Rattle.arrival_with_skips.specs.Skips.{Call, Push, Take, SkipOrdered, SkipUnordered, ran, out, pushes, Untouched, Touched, Arrived}
-use Rattle.arrival_with_skips.proofs.Each.{each-back}
-use Rattle.arrival_with_skips.proofs.Runs as model
+use Rattle.skips_plan.proofs.Each.{each-back}
+use Rattle.skips_plan.proofs.Runs as model
 use Rattle.arrival_with_skips.proofs.Walk.{events, Walked, follow, Long-on, back}
 
 -- ── the runs ──

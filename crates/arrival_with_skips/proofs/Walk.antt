@@ -10,13 +10,13 @@ use Rattle.fragments.specs.Words.{size}
 use Rattle.reassembly_state.specs.Model.{Queue, turn, skipOrdered, skipUnordered}
 use Rattle.reassembly_state.specs.State.{State, lay, After, after, Read, read, forwardOrdered, forwardUnordered}
 use Rattle.reassembly_theorems.proofs.Stays.{skip-ordered-good, skip-unordered-good}
-use Rattle.arrival.specs.Plan.{Carried}
+use Rattle.arrival_plan.specs.Plan.{Carried}
 use Rattle.arrival.specs.Calls.{Came, given}
-use Rattle.arrival.proofs.Maps.{Each}
+use Rattle.arrival_plan.proofs.Maps.{Each}
 use Rattle.arrival.proofs.Planned.{fragOf, pieceOf, Of}
 use Rattle.arrival.proofs.Bridge.{Holds, push-own, take-own, laid-holds, push-holds, push-told, read-is, told, given-is, take-unrefused, long-for, take-holds}
 use Rattle.arrival_with_skips.specs.Skips.{Call, Push, Take, SkipOrdered, SkipUnordered, refusal, ran, out, AtEach, pushes, Roomy, Long}
-use Rattle.arrival_with_skips.proofs.Runs as model
+use Rattle.skips_plan.proofs.Runs as model
 
 -- ── a skip ──
 

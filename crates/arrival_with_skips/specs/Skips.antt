@@ -16,7 +16,7 @@ use Rattle.reassembly_state.specs.Limits.{fragsMost, bytesMost}
 use Rattle.reassembly_state.specs.Model.{turn, roomFor, noMessage}
 use Rattle.reassembly_state.specs.State.{State, view, fragments, fragmentOf, pushed, isReadable, reads, read, forwardOrdered, forwardUnordered, numBytes}
 use Rattle.reassembly_queue.specs.Queue.{stateOf, fresh}
-use Rattle.arrival.specs.Plan.{tsnAt, Order, Merge}
+use Rattle.arrival_plan.specs.Plan.{tsnAt, Order, Merge}
 use Rattle.arrival.specs.Calls.{Chunk, Sent, bytesOf, chunksOf, Plan, Came, given, message, inOrder}
 
 -- ── the calls ──

@@ -1,12 +1,11 @@
 // Passes over the records of loose unordered fragments: `from` and n are a segment of the table's rows.
 ghost use mathlib.Core.Path.{_≡_};
-ghost use mathlib.Core.Bool.{_&&_};
 ghost use mathlib.Core.List.{map};
 ghost use Prim.Native.Nat.{_+_, _*_, _/_, _%_, _≤_, _<_};
 ghost use lib.Dec.{eqb};
 ghost use lib.ListN.{length, take, drop};
-ghost use Rattle.table.specs.Rows.{rowsOf, some, aheadOf};
-ghost use Rattle.fragments.specs.Frag.{bare, ofRow, begins, ends, tsnAfter};
+ghost use Rattle.table.specs.Rows.{rowsOf, aheadOf};
+ghost use Rattle.fragments.specs.Frag.{bare, ofRow, tsnAfter};
 ghost use Rattle.loose_fragments.specs.Loose.{runDown, runUp, startsBy, scanned};
 use fragments::long_length;
 
@@ -111,31 +110,13 @@ fn scan_rows(table: &[u32], size: usize, from: usize, n: usize) -> Span
     Span { from: 0, to: 0 }
 }
 
-// Whether some row is B and some is E: a pass over all of them.
-fn has_marks(table: &[u32], size: usize, from: usize, n: usize) -> bool
-    requires { ⌜ length (now table) ≡ 4 * size ⌝ }
-    requires { ⌜ from + n ≤ size ⌝ }
-    ensures { λ r. ⌜ r ≡ (some (ofRow begins) (take n (drop from (rowsOf size (now (table .entry))))) && some (ofRow ends) (take n (drop from (rowsOf size (now (table .entry)))))) ⌝ }
-{
-    let mut begin = false;
-    let mut end = false;
-    let mut i: usize = 0;
-    while i < n {
-        let flags = table[from + i] / 16777216;
-        begin = begin | (flags / 2 % 2 == 1);
-        end = end | (flags % 2 == 1);
-        i += 1;
-    }
-    begin & end
-}
-
 // The first whole message. Where B or E is missing there is none, and no row is walked.
 pub fn scan(table: &[u32], size: usize, from: usize, n: usize) -> Span
     requires { ⌜ length (now table) ≡ 4 * size ⌝ }
     requires { ⌜ from + n ≤ size ⌝ }
     ensures { λ r. ⌜ r ≡ scanned (map bare (take n (drop from (rowsOf size (now (table .entry)))))) ⌝ }
 {
-    if !has_marks(table, size, from, n) {
+    if !loose_marks::has_marks(table, size, from, n) {
         return Span { from: 0, to: 0 };
     }
     scan_rows(table, size, from, n)

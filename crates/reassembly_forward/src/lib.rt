@@ -40,7 +40,15 @@ pub fn skip_unordered(
     let count = counts.finished + (counts.unordered + counts.ordered);
     let at = counts.finished;
     let k = loose_fragments::find_after(table, FRAGMENTS, at, counts.unordered, new_cumulative_tsn);
-    let bytes = fragments::remove_fragments(table, FRAGMENTS, count, pool, counts.n_bytes, at, k);
+    let bytes = fragment_close::remove_fragments(
+        table,
+        FRAGMENTS,
+        count,
+        pool,
+        counts.n_bytes,
+        at,
+        k,
+    );
     let mut queue = counts;
     queue.unordered = queue.unordered - k;
     queue.n_bytes = queue.n_bytes - bytes;

@@ -69,7 +69,7 @@ pub fn take_run(
 {
     wire::put_bytes(buffer, &pool[off..off + size]);
     let first = table::row_at(table, FRAGMENTS, from);
-    fragments::close_fragments(table, FRAGMENTS, held, pool, bytes, from, k, off, size);
+    fragment_close::close_fragments(table, FRAGMENTS, held, pool, bytes, from, k, off, size);
     let ssn = (first.id % 65536) as u16;
     in_hand(ordered, ssn, first.ppi, size)
 }

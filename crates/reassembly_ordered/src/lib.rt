@@ -37,7 +37,7 @@ fn new_set(
     let from = queue.finished + queue.unordered;
     let place = from + fragment_sets::place_ssn(table, FRAGMENTS, from, queue.ordered, ssn);
     let held = queue.finished + (queue.unordered + queue.ordered);
-    fragments::put_fragment(
+    fragment_put::put_fragment(
         table,
         FRAGMENTS,
         held,
@@ -81,7 +81,7 @@ fn join_set(
     row.ppi = first.ppi;
     let place = at + table_search::walk_back(table, FRAGMENTS, at, run, row.tsn);
     let held = queue.finished + (queue.unordered + queue.ordered);
-    fragments::put_fragment(
+    fragment_put::put_fragment(
         table,
         FRAGMENTS,
         held,

@@ -3,9 +3,10 @@ ghost use Prim.Native.Nat.{_≤_};
 ghost use lib.ListN.{length};
 ghost use Rattle.payload_model.specs.Answers.{flagTold};
 ghost use Rattle.replay_words.specs.Behind.{Put};
-ghost use Rattle.replay_words.specs.Lines.{line, saidAnswer, saidCut, totalLine, badVersion};
+ghost use Rattle.replay_words.specs.Lines.{line, saidAnswer, saidCut, totalLine};
 use counters::Counters;
 use payload_model::Flag;
+pub use replay_bad_version::put_bad_version;
 use replay_words::decimal_at;
 use replay_words::put_at;
 use replay_words::said_at;
@@ -43,12 +44,4 @@ pub fn put_total(out: &mut [u8], counters: Counters) -> usize
     let third = words_at(out, first, counters.stored, counters.turned_away);
     let end = words_at(out, third, counters.refused, counters.cut);
     put_at(out, end, b"\n")
-}
-
-// The line of a file with another version.
-pub fn put_bad_version(out: &mut [u8]) -> usize
-    requires { ⌜ 96 ≤ length (now out) ⌝ }
-    ensures { λ r. ⌜ Put (now (out .entry)) badVersion (now (out .exit)) r ⌝ }
-{
-    put_at(out, 0, b"bad version\n")
 }

@@ -1,26 +1,8 @@
 // What the C calls of ERROR and ABORT are made of. The count is 0 beside a refusal.
 ghost use mathlib.Core.Path.{_≡_};
 ghost use Rattle.cause_parts.specs.Lists.{lists};
-ghost use Rattle.error_causes.specs.Counts.{countTold};
 ghost use Rattle.cause_report.specs.Report.{report, reported};
-ghost use Rattle.sctp_receive_result.specs.Result.{told, back};
-use error_causes::Counted;
-
-// A number of causes.
-fn counted(answer: Counted, n: &mut usize) -> i32
-    ensures { λ r. ⌜ told (back r) (now (n .exit)) ≡ countTold answer ⌝ }
-{
-    match answer {
-        Counted::Causes(count) => {
-            *n = count;
-            -1
-        }
-        Counted::Refused(k) => {
-            *n = 0;
-            k as i32
-        }
-    }
-}
+ghost use Rattle.sctp_receive_result.specs.Result.{told};
 
 // The causes of the ERROR chunk that the lent bytes begin with; 1 2 3 16 10.
 pub fn error_unmarshal(
@@ -34,7 +16,7 @@ pub fn error_unmarshal(
     ensures { λ r. ⌜ report (told r (now (n .exit))) (lists (now (codes .exit)) (now (depths .exit)) (now (starts .exit)) (now (sizes .exit))) ≡ reported 9 (now (raw .entry)) (lists (now (codes .entry)) (now (depths .entry)) (now (starts .entry)) (now (sizes .entry))) ⌝ }
 {
     let answer = chunk_error::unmarshal(raw, codes, depths, starts, sizes);
-    counted(answer, n)
+    sctp_receive_cause_count::counted(answer, n)
 }
 
 // The causes of the ABORT chunk that the lent bytes begin with; 1 2 3 16 10.
@@ -49,5 +31,5 @@ pub fn abort_unmarshal(
     ensures { λ r. ⌜ report (told r (now (n .exit))) (lists (now (codes .exit)) (now (depths .exit)) (now (starts .exit)) (now (sizes .exit))) ≡ reported 6 (now (raw .entry)) (lists (now (codes .entry)) (now (depths .entry)) (now (starts .entry)) (now (sizes .entry))) ⌝ }
 {
     let answer = chunk_abort::unmarshal(raw, codes, depths, starts, sizes);
-    counted(answer, n)
+    sctp_receive_cause_count::counted(answer, n)
 }

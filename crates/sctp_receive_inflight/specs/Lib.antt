@@ -1,1 +1,1 @@
-pub mod InFlight
+pub use Rattle.sctp_receive_flight.specs.InFlight

@@ -12,45 +12,12 @@ ghost use Rattle.reassembly_state.specs.Rows.{setAt, setRun};
 ghost use Rattle.streams_model.specs.Limits.{streamsMost};
 ghost use Rattle.streams_model.specs.Shape.{queuesOf};
 ghost use Rattle.streams_model.specs.State.{stateOf, rowsHeld, bytesSaid, unsound, own, after, laid};
-ghost use Rattle.streams_model.specs.Among.{Others, amongNone, roomyIf, among, Ready};
+ghost use Rattle.streams_model.specs.Among.{Others, amongNone, roomyIf, among};
 use chunk_payload_data::ChunkPayloadData;
-use reassembly_parts::record;
-use reassembly_state::FRAGMENTS;
 use streams_counts::Sum;
 use streams_model::Pushed;
 use streams_model::Streams;
 use streams_parts::Among;
-
-// Room for one more fragment: what stands behind the stream's own moves up, and the new one stands in between for now.
-fn make_room(
-    streams: Streams,
-    table: &mut [u32],
-    pool: &mut [u8],
-    stream: usize,
-    chunk: ChunkPayloadData,
-    user_data: &[u8],
-    place: Among,
-)
-    requires { ⌜ length (now table) ≡ 4 * fragsMost ⌝ }
-    requires { ⌜ unsound (stateOf streams (now table) (now pool)) ≡ false ⌝ }
-    requires { ⌜ stream < streamsMost ⌝ }
-    requires { ⌜ rowsHeld (queuesOf streams) < fragsMost ⌝ }
-    requires { ⌜ bytesSaid (queuesOf streams) + length (now «user_data») ≤ bytesMost ⌝ }
-    requires { ⌜ Others (queuesOf streams) stream (place .before .rows) (place .before .bytes) (place .behind .rows) (place .behind .bytes) ⌝ }
-    requires { ⌜ place .queue ≡ amongNone (queuesOf streams) stream ⌝ }
-    ensures { λ _. ⌜ Ready (stateOf streams (now (table .entry)) (now (pool .entry))) stream (fragmentOf chunk (now («user_data» .entry))) (one.stateOf (place .queue) (now (table .exit)) (now (pool .exit))) ⌝ }
-{
-    let behind = place.behind;
-    if behind.rows == 0 {
-        return;
-    }
-    let queue = place.queue;
-    let row = record::row_of(chunk, user_data.len());
-    let at = queue.finished + (queue.unordered + queue.ordered);
-    let held = at + behind.rows;
-    let bytes = queue.n_bytes + behind.bytes;
-    fragments::put_fragment(table, FRAGMENTS, held, pool, bytes, at, row, user_data);
-}
 
 // Stores the fragment in its set of run rows at index at, or in a new one.
 fn keep(
@@ -75,7 +42,7 @@ fn keep(
     requires { ⌜ run ≡ setRun (among (stateOf streams (now table) (now pool)) stream 0 0) (chunk .«stream_sequence_number») ⌝ }
     ensures { λ r. ⌜ after (flagTold (r .answer)) (stateOf (r .streams) (now (table .exit)) (now (pool .exit))) ≡ laid (stateOf streams (now (table .entry)) (now (pool .entry))) stream (keepOrdered (own (stateOf streams (now (table .entry)) (now (pool .entry))) stream) (fragmentOf chunk (now («user_data» .entry)))) ⌝ }
 {
-    make_room(streams, table, pool, stream, chunk, user_data, place);
+    streams_open::make_room(streams, table, pool, stream, chunk, user_data, place);
     let left = reassembly_ordered::keep(place.queue, table, pool, chunk, user_data, at, run);
     let none = Sum { rows: 0, bytes: 0 };
     let answer = left.answer;

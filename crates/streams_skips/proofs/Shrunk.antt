@@ -4,14 +4,13 @@ use mathlib.Core.Path.{_≡_, sym, ap, _∙_}
 use mathlib.Core.List.{List, _++_}
 use Prim.Native.Nat.{ℕ, _+_, _-_, _≤_, _<_}
 use native.Mathlib.Omega.{arith}
-use lib.ListN.{length, take, length-append, take-append-drop}
+use lib.ListN.{length, take, length-append}
 use Rattle.wire.specs.BigEndian.{over}
 use Rattle.moves.specs.Lists.{gone}
 use Rattle.table.specs.declared.Row.{Row}
 use Rattle.fragments.specs.Frag.{Frag}
 use Rattle.fragments.specs.Words.{size}
 use Rattle.fragments.specs.Pool.{layRows, layBytes}
-use Rattle.fragments.proofs.Pool.{over-own}
 use Rattle.reassembly_state.specs.Limits.{fragsMost}
 use Rattle.reassembly_state.specs.Model.{Queue, held, skipOrdered, skipUnordered}
 use Rattle.reassembly_state.specs.State as one
@@ -27,13 +26,6 @@ use Rattle.streams_model.proofs.Beside.{skip-ordered-behind, skip-bounded-behin
 use Rattle.streams_model.proofs.Moved.{rows-down, bytes-down}
 use Rattle.streams_model.proofs.Left.{Left, stands}
 use Rattle.streams_model.proofs.Front.{Fronted}
-
--- a gap of nothing closed
-pub nothing-gone : {A : Type 0} (to at n : ℕ) (xs : List A) → to ≡ at → xs ≡ over xs (gone to (at - to) (take n xs))
-unfolding gone
-nothing-gone to at n xs e =
-    let none : to + (at - to) ≡ to = omega (arith, e) in
-    sym (rw (none, take-append-drop to (take n xs)) (over-own n xs))
 
 -- the queue m of stream j stands behind those before it, and holds no more than the stream did; q had its counts, and what stands behind is not moved
 pub record Shrunk (s : State) (j : ℕ) (m : Queue) (q left : Counts) (rows : List Row) (pool : List ℕ) : Type 0 where

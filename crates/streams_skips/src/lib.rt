@@ -1,44 +1,15 @@
 // Skips of one of eight streams that are sound: what is dropped of it leaves the streams behind it further down.
 ghost use mathlib.Core.Path.{_≡_};
 ghost use mathlib.Core.Bool.{false};
-ghost use Prim.Native.Nat.{_+_, _-_, _*_, _<_, _≤_};
-ghost use lib.ListN.{length, take};
-ghost use Rattle.wire.specs.BigEndian.{over};
-ghost use Rattle.moves.specs.Lists.{gone};
-ghost use Rattle.table.specs.Rows.{rowsOf};
+ghost use Prim.Native.Nat.{_*_, _<_};
+ghost use lib.ListN.{length};
 ghost use Rattle.reassembly_state.specs.Limits.{fragsMost};
 ghost use Rattle.reassembly_state.specs.Model.{skipOrdered, skipUnordered};
-ghost use Rattle.reassembly_state.specs.State.{count};
 ghost use Rattle.reassembly_bounded.specs.Bounded.{skipBounded};
 ghost use Rattle.streams_model.specs.Limits.{streamsMost};
 ghost use Rattle.streams_model.specs.State.{stateOf, unsound, own, withOwn};
-use reassembly_state::Counts;
-use reassembly_state::FRAGMENTS;
 use streams_counts::Sum;
 use streams_model::Streams;
-
-// What stands behind a queue moves down to what is left of it. Nothing moves where nothing was dropped.
-fn close_up(table: &mut [u32], pool: &mut [u8], queue: Counts, left: Counts, behind: Sum)
-    requires { ⌜ length (now table) ≡ 4 * fragsMost ⌝ }
-    requires { ⌜ count left ≤ count queue ⌝ }
-    requires { ⌜ left .«n_bytes» ≤ queue .«n_bytes» ⌝ }
-    requires { ⌜ count queue + behind .rows ≤ fragsMost ⌝ }
-    requires { ⌜ queue .«n_bytes» + behind .bytes ≤ length (now pool) ⌝ }
-    ensures { λ _. ⌜ rowsOf fragsMost (now (table .exit)) ≡ over (rowsOf fragsMost (now (table .entry))) (gone (count left) (count queue - count left) (take (count queue + behind .rows) (rowsOf fragsMost (now (table .entry))))) ⌝ }
-    ensures { λ _. ⌜ now (pool .exit) ≡ over (now (pool .entry)) (gone (left .«n_bytes») (queue .«n_bytes» - left .«n_bytes») (take (queue .«n_bytes» + behind .bytes) (now (pool .entry)))) ⌝ }
-{
-    let at = queue.finished + (queue.unordered + queue.ordered);
-    let to = left.finished + (left.unordered + left.ordered);
-    let off = queue.n_bytes;
-    let place = left.n_bytes;
-    if to == at {
-        if place == off {
-            return;
-        }
-    }
-    let end = off + behind.bytes;
-    fragments::move_down(table, FRAGMENTS, pool, to, at, behind.rows, place, off, end);
-}
 
 // Drops incomplete sets at or before an SSN, and expects the one after it. The streams before it count as finished fragments of its queue.
 pub fn skip_ordered(
@@ -55,7 +26,7 @@ pub fn skip_ordered(
 {
     let place = streams_parts::among_front(streams, stream);
     let left = reassembly_forward::skip_ordered(place.queue, table, pool, last_ssn);
-    close_up(table, pool, place.queue, left, place.behind);
+    streams_close::close_up(table, pool, place.queue, left, place.behind);
     let none = Sum { rows: 0, bytes: 0 };
     streams_parts::put_back(streams, stream, left, place.before, none)
 }
@@ -82,7 +53,7 @@ pub fn skip_bounded(
         last_ssn,
         new_cumulative_tsn,
     );
-    close_up(table, pool, place.queue, left, place.behind);
+    streams_close::close_up(table, pool, place.queue, left, place.behind);
     let none = Sum { rows: 0, bytes: 0 };
     streams_parts::put_back(streams, stream, left, place.before, none)
 }

@@ -17,7 +17,7 @@ use Rattle.loose_fragments.specs.Loose.{runs, run, reach, startsBy, scan}
 use Rattle.reassembly_state.specs.Model.{Queue, queue, keepOrdered, pushOrdered, moveRun, keepLoose, pushUnordered, push, readySet, movedOn, firstSsn, firstPpi, finishedTurn, orderedTurn, turn, readable, messageOf, taken}
 use Rattle.reassembly_state.specs.State.{fragmentOf}
 use Rattle.streams_model.specs.State.{State, isReadable}
-use Rattle.arrival.specs.Plan.{Order}
+use Rattle.arrival_plan.specs.Plan.{Order}
 use Rattle.arrival.specs.Calls.{Chunk, chunksOf, message}
 use Rattle.arrival.proofs.Example.{three-0, three-1, three-2, two-0, two-1, one-0, empty-0, empty, three, two, one, os, us, plan, buffer, meets}
 use Rattle.streams_theorems.specs.Runs.{Act, Push, Take, IsReadable, NumBytes, SkipOrdered, SkipUnordered, SkipBounded, Call, start, ran, callsOn, answersOn, EachOn, Roomy, OnItsOwn}

@@ -19,7 +19,7 @@ use Rattle.loose_fragments.specs.Loose.{runs, run, reach, startsBy, scan}
 use Rattle.reassembly_state.specs.Model.{Queue, queue, keepOrdered, pushOrdered, moveRun, keepLoose, pushUnordered, push, readySet, movedOn, firstSsn, firstPpi, finishedTurn, orderedTurn, turn, readable, messageOf, taken, skipOrdered, skipUnordered}
 use Rattle.reassembly_state.specs.State.{fragmentOf}
 use Rattle.streams_model.specs.State.{State, isReadable}
-use Rattle.arrival.specs.Plan.{Order}
+use Rattle.arrival_plan.specs.Plan.{Order}
 use Rattle.arrival.specs.Calls.{Chunk, chunksOf, message}
 use Rattle.arrival.proofs.Example.{three-0, three-1, three-2, three, two-1, one-0, one, os, us, plan, buffer}
 use Rattle.arrival_with_skips.specs.Skips.{pushes, ssns, tsns, Named, AllInArc, AllNeedless, piece}

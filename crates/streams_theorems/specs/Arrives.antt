@@ -12,7 +12,7 @@ use Rattle.reassembly_state.specs.Limits.{fragsMost}
 use Rattle.reassembly_state.specs.Model.{held, noMessage, turn}
 use Rattle.streams_model.specs.Limits.{streamsMost}
 use Rattle.streams_model.specs.State.{State, own, isReadable, reads, read, numBytes}
-use Rattle.arrival.specs.Plan.{Order, Merge}
+use Rattle.arrival_plan.specs.Plan.{Order, Merge}
 use Rattle.arrival.specs.Calls.{Chunk, Sent, chunksOf, Plan, Came, came, message, inOrder}
 use Rattle.streams_theorems.specs.Runs.{Act, Push, Take, IsReadable, NumBytes, SkipOrdered, SkipUnordered, SkipBounded, Applicable, Call, Answer, Says, Gives, Counts, Finds, refusalOf, start, ran, callsOn, answersOn, EachOn, Roomy}
 use Rattle.streams_theorems.specs.Alone.{Lent}

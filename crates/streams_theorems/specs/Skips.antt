@@ -11,7 +11,7 @@ use Rattle.reassembly_state.specs.Limits.{fragsMost}
 use Rattle.reassembly_state.specs.Model.{held, noMessage}
 use Rattle.streams_model.specs.Limits.{streamsMost}
 use Rattle.streams_model.specs.State.{State, own, isReadable, reads, read, numBytes}
-use Rattle.arrival.specs.Plan.{Order, Merge}
+use Rattle.arrival_plan.specs.Plan.{Order, Merge}
 use Rattle.arrival.specs.Calls.{Chunk, Sent, bytesOf, chunksOf, Plan, Came, message, inOrder}
 use Rattle.arrival_with_skips.specs.Skips as skips
 use Rattle.arrival_with_skips.specs.Skips.{pushes, ssns, tsns, Named, AllInArc, upTo, Touched, AllNeedless, piece}

@@ -12,7 +12,7 @@ use Rattle.reassembly_state.specs.Limits.{fragsMost, bytesMost}
 use Rattle.reassembly_state.specs.State.{State, stateOf, unsound, count, view, laid, fragmentOf}
 use Rattle.reassembly_state.specs.Rows.{settled}
 use Rattle.reassembly_state.proofs.Laws.{Sound, sound}
-use Rattle.reassembly_unordered.proofs.Loose.{push-large, push-again, push-crowded, push-stores, stored-sound, stored-settled}
+use Rattle.reassembly_loose.proofs.Loose.{push-large, push-again, push-crowded, push-stores, stored-sound, stored-settled}
 use Rattle.reassembly_unordered.proofs.push.Statement.{statement}
 use Rattle.reassembly_unordered.proofs.push.Tie as tie
 

@@ -5,7 +5,7 @@ use native.Mathlib.Omega.{arith}
 use Rattle.table.specs.Rows.{rowsOf}
 use Rattle.reassembly_state.specs.Limits.{fragsMost}
 use Rattle.reassembly_state.specs.Rows.{neighbours}
-use Rattle.reassembly_unordered.proofs.Loose.{runs-fit}
+use Rattle.reassembly_loose.proofs.Loose.{runs-fit}
 use Rattle.reassembly_unordered.proofs.reach.Statement.{statement}
 use Rattle.reassembly_unordered.proofs.reach.Tie as tie
 

@@ -7,7 +7,7 @@ use borrow.Author.Tests.{not-true}
 use lib.Dec.{ltb}
 use Rattle.table.specs.Rows.{rowsOf}
 use Rattle.reassembly_state.specs.Limits.{fragsMost}
-use Rattle.reassembly_unordered.proofs.Loose.{not-large}
+use Rattle.reassembly_loose.proofs.Loose.{not-large}
 use Rattle.reassembly_unordered.proofs.too_large.Statement.{statement}
 use Rattle.reassembly_unordered.proofs.too_large.Tie as tie
 

@@ -1,0 +1,16 @@
+pub mod Lists
+pub mod Numbers
+pub mod Shape
+pub mod Runs
+pub mod Scans
+pub mod Takes
+pub mod Pushes
+pub mod Loose
+pub mod Sets
+pub mod Locate
+pub mod Arrived
+pub mod Sorts
+pub mod Drains
+pub mod Whole
+pub mod Small
+pub mod Maps

@@ -1,0 +1,10 @@
+pub mod Each
+pub mod Fates
+pub mod Runs
+pub mod SkippedLoose
+pub mod SkippedSets
+pub mod Taken
+pub mod Pushed
+pub mod Located
+pub mod Guarantee
+pub mod Lifts
