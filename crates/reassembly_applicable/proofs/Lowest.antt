@@ -15,7 +15,7 @@ use Rattle.fragments.specs.Frag.{Frag, ssnOf, bare}
 use Rattle.fragment_sets.proofs.Complete.{segment-rest, segment-end}
 use Rattle.set_reach.specs.Kept.{lower, lowest}
 use Rattle.set_reach.proofs.Keeping.{keptOn, picked, kept-start, kept-more, kept-end}
-use Rattle.reassembly_applicable.specs.Applicable.{tsnsFrom, isUpTo, resolved}
+use Rattle.set_reach.specs.Applicable.{tsnsFrom, isUpTo, resolved}
 
 tsns-nil : (s : ℕ) → tsnsFrom s [] ≡ []
 unfolding tsnsFrom

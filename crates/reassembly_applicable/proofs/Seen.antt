@@ -17,7 +17,7 @@ use Rattle.reassembly_state.specs.Limits.{fragsMost}
 use Rattle.reassembly_state.specs.State.{State, count, view}
 use Rattle.reassembly_state.specs.Rows.{orderedRows}
 use Rattle.reassembly_state.proofs.Laws.{ordered-cut, view-next}
-use Rattle.reassembly_applicable.specs.Applicable.{settles, tsnsFrom, resolved, appliesWhole, firstUpTo, endsPart, applies, Found, foundIn}
+use Rattle.set_reach.specs.Applicable.{settles, tsnsFrom, resolved, appliesWhole, firstUpTo, endsPart, applies, Found, foundIn}
 
 settles-blind : (expected s t : ℕ) → Blind (settles expected s t)
 settles-blind expected s t l = rw (ssn-blind l, reached-blind t l)

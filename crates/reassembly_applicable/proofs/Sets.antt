@@ -14,7 +14,7 @@ use Rattle.fragments.specs.Frag.{Frag, ssnOf, bare}
 use Rattle.set_reach.specs.Reach.{reached}
 use Rattle.set_reach.specs.Kept.{setSsn}
 use Rattle.set_reach.proofs.Passing.{first-row, first-ssn}
-use Rattle.reassembly_applicable.specs.Applicable.{settles, firstUpTo, endsPart}
+use Rattle.set_reach.specs.Applicable.{settles, firstUpTo, endsPart}
 
 module _ (rows : List Row) (at k : ℕ) (fit : at + k ≤ length rows) (h : 0 < k) {r : Row} (e : r ≡ getD rows at blank) where
   abbrev set : List Frag

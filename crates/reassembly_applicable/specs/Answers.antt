@@ -2,7 +2,7 @@
 -- Assumes nothing.
 use mathlib.Core.Bool.{true, false}
 use Rattle.wire.specs.Refusal.{none, refuse, Told, says}
-use Rattle.reassembly_applicable.specs.Applicable.{Found}
+use Rattle.set_reach.specs.Applicable.{Found}
 use Rattle.reassembly_applicable.specs.declared.Applicable.{Applicable}
 use Rattle.reassembly_applicable.specs.declared.Applicable.the-variants as answers
 

@@ -6,7 +6,7 @@ ghost use lib.ListN.{length};
 ghost use Rattle.wire.specs.Refusal.{none, says};
 ghost use Rattle.reassembly_state.specs.Limits.{fragsMost};
 ghost use Rattle.reassembly_state.specs.State.{stateOf, count, view};
-ghost use Rattle.reassembly_applicable.specs.Applicable.{foundIn, applies, applicable};
+ghost use Rattle.set_reach.specs.Applicable.{foundIn, applies, applicable};
 ghost use Rattle.reassembly_applicable.specs.Answers.{applicableTold};
 
 mod part;

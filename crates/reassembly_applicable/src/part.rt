@@ -11,7 +11,7 @@ ghost use Rattle.fragments.specs.Frag.{bare};
 ghost use Rattle.fragment_sets.specs.Sets.{sets};
 ghost use Rattle.set_reach.specs.Kept.{ssnsOf, highest};
 ghost use Rattle.reassembly_state.specs.Limits.{fragsMost};
-ghost use Rattle.reassembly_applicable.specs.Applicable.{endsPart, foundIn};
+ghost use Rattle.set_reach.specs.Applicable.{endsPart, foundIn};
 ghost use Rattle.reassembly_applicable.specs.Answers.{applicableTold};
 use crate::Applicable;
 use reassembly_state::FRAGMENTS;

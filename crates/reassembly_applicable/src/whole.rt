@@ -10,7 +10,7 @@ ghost use Rattle.fragments.specs.Frag.{bare};
 ghost use Rattle.fragment_sets.specs.Sets.{sets};
 ghost use Rattle.set_reach.specs.Kept.{someSet};
 ghost use Rattle.reassembly_state.specs.Limits.{fragsMost};
-ghost use Rattle.reassembly_applicable.specs.Applicable.{settles, resolved};
+ghost use Rattle.set_reach.specs.Applicable.{settles, resolved};
 use reassembly_state::FRAGMENTS;
 
 // Whether the set of k rows at an index is that of the last SSN, and is the expected one or reached by the point.

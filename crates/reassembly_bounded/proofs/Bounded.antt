@@ -17,7 +17,7 @@ use Rattle.reassembly_state.specs.State.{State, view, counts, lay}
 use Rattle.reassembly_state.specs.Rows.{orderedRows}
 use Rattle.reassembly_state.proofs.Laws.{Sound, ordered-cut}
 use Rattle.reassembly_drop.proofs.Expected.{expecting, expects}
-use Rattle.reassembly_bounded.specs.Bounded.{abandoned, heldBack, limit, movedTo, skipBounded}
+use Rattle.set_reach.specs.Bounded.{abandoned, heldBack, limit, movedTo, skipBounded}
 
 -- ── the limit ──
 

@@ -1,1 +1,1 @@
-pub mod Bounded
+pub use Rattle.set_reach.specs.Bounded

@@ -10,7 +10,7 @@ ghost use Rattle.fragments.specs.Frag.{bare};
 ghost use Rattle.reassembly_state.specs.Limits.{fragsMost};
 ghost use Rattle.reassembly_state.specs.Answers.{doneTold};
 ghost use Rattle.reassembly_state.specs.State.{stateOf, unsound, view, lay, after};
-ghost use Rattle.reassembly_bounded.specs.Bounded.{heldBack, limit, skipBounded, forwardBounded};
+ghost use Rattle.set_reach.specs.Bounded.{heldBack, limit, skipBounded, forwardBounded};
 use reassembly_state::Counts;
 use reassembly_state::Done;
 use reassembly_state::FRAGMENTS;

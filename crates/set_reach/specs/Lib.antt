@@ -1,2 +1,4 @@
 pub mod Reach
 pub mod Kept
+pub mod Bounded
+pub mod Applicable

@@ -16,8 +16,8 @@ use Rattle.fragment_sets.specs.Sets.{setOf}
 use Rattle.loose_fragments.specs.Loose.{reach, scanned}
 use Rattle.loose_fragments.specs.declared.Span.{Span}
 use Rattle.reassembly_state.specs.Model.{Queue, queue, Given, gives, keepOrdered, pushOrdered, moveRun, keepLoose, pushUnordered, skipOrdered, skipUnordered}
-use Rattle.reassembly_bounded.specs.Bounded.{skipBounded}
-use Rattle.reassembly_applicable.specs.Applicable.{appliesWhole, applies}
+use Rattle.set_reach.specs.Bounded.{skipBounded}
+use Rattle.set_reach.specs.Applicable.{appliesWhole, applies}
 use Rattle.streams_model.specs.Among.{amongst, upTo}
 
 -- what a call gives, with others before and behind

@@ -17,8 +17,8 @@ use Rattle.reassembly_state.specs.Limits.{fragsMost, bytesMost}
 use Rattle.reassembly_state.specs.Model.{Queue, queue, held, Given, push, Message, noMessage, Took, taken, readable, skipOrdered, skipUnordered}
 use Rattle.reassembly_state.specs.State.{count, counts, fragmentOf}
 use Rattle.reassembly_state.specs.declared.Counts.{Counts}
-use Rattle.reassembly_bounded.specs.Bounded.{skipBounded}
-use Rattle.reassembly_applicable.specs.Applicable.{Found, foundIn, applies}
+use Rattle.set_reach.specs.Bounded.{skipBounded}
+use Rattle.set_reach.specs.Applicable.{Found, foundIn, applies}
 use Rattle.streams_model.specs.Limits.{streamsMost}
 use Rattle.streams_model.specs.Shape.{queuesOf}
 use Rattle.streams_model.specs.Room.{roomAmong}

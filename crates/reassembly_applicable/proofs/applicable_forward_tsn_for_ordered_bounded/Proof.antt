@@ -4,7 +4,7 @@ use mathlib.Core.Path.{sym, _∙_}
 use native.Mathlib.Omega.{arith}
 use borrow.Author.Needs.{needs}
 use Rattle.reassembly_state.proofs.Laws.{sound}
-use Rattle.reassembly_applicable.specs.Applicable.{foundIn, applicable}
+use Rattle.set_reach.specs.Applicable.{foundIn, applicable}
 use Rattle.reassembly_applicable.proofs.applicable_forward_tsn_for_ordered_bounded.Statement.{statement}
 use Rattle.reassembly_applicable.proofs.applicable_forward_tsn_for_ordered_bounded.Tie as tie
 

@@ -8,7 +8,7 @@ use lib.ListN.{length}
 use Rattle.table.proofs.Columns.{rows-long}
 use Rattle.reassembly_state.specs.Limits.{fragsMost}
 use Rattle.reassembly_state.specs.State.{State, stateOf}
-use Rattle.reassembly_applicable.specs.Applicable.{foundIn}
+use Rattle.set_reach.specs.Applicable.{foundIn}
 use Rattle.reassembly_applicable.proofs.Seen.{after-it, settled-it, resolved-it, part-it}
 use Rattle.reassembly_applicable.proofs.applies.Statement.{statement}
 use Rattle.reassembly_applicable.proofs.applies.Tie as tie

@@ -6,7 +6,7 @@ use native.Mathlib.Omega.{arith}
 use borrow.Author.Needs.{needs}
 use Rattle.wire.specs.Refusal.{none, says}
 use Rattle.reassembly_state.specs.State.{after}
-use Rattle.reassembly_bounded.specs.Bounded.{forwardBounded}
+use Rattle.set_reach.specs.Bounded.{forwardBounded}
 use Rattle.reassembly_bounded.proofs.forward_tsn_for_ordered_bounded.Statement.{statement}
 use Rattle.reassembly_bounded.proofs.forward_tsn_for_ordered_bounded.Tie as tie
 

@@ -8,7 +8,7 @@ use Rattle.set_reach.specs.Kept.{lower}
 use Rattle.set_reach.proofs.Passing.{set-fits}
 use Rattle.set_reach.proofs.Keeping.{Keeping, keeping-none, keeping-past, keeping-one, keeping-all}
 use Rattle.reassembly_state.specs.Limits.{fragsMost}
-use Rattle.reassembly_bounded.specs.Bounded.{heldBack}
+use Rattle.set_reach.specs.Bounded.{heldBack}
 use Rattle.reassembly_bounded.proofs.Bounded.{limit-found, limit-free}
 use Rattle.reassembly_bounded.proofs.limit.Statement.{statement}
 use Rattle.reassembly_bounded.proofs.limit.Tie as tie

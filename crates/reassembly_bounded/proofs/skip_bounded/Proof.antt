@@ -8,7 +8,7 @@ use Rattle.table.proofs.Columns.{rows-long}
 use Rattle.reassembly_state.specs.Limits.{fragsMost}
 use Rattle.reassembly_state.specs.State.{State, stateOf, view}
 use Rattle.reassembly_state.proofs.Laws.{Sound, sound}
-use Rattle.reassembly_bounded.specs.Bounded.{limit}
+use Rattle.set_reach.specs.Bounded.{limit}
 use Rattle.reassembly_bounded.proofs.Bounded.{limit-seen, moved-on, stayed}
 use Rattle.reassembly_bounded.proofs.skip_bounded.Statement.{statement}
 use Rattle.reassembly_bounded.proofs.skip_bounded.Tie as tie

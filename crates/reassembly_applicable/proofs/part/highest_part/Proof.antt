@@ -10,7 +10,7 @@ use Rattle.set_reach.specs.Kept.{higher}
 use Rattle.set_reach.proofs.Passing.{set-fits}
 use Rattle.set_reach.proofs.Keeping.{Keeping, keeping-none, keeping-past, keeping-one, keeping-all}
 use Rattle.reassembly_state.specs.Limits.{fragsMost}
-use Rattle.reassembly_applicable.specs.Applicable.{endsPart, foundIn}
+use Rattle.set_reach.specs.Applicable.{endsPart, foundIn}
 use Rattle.reassembly_applicable.proofs.part.highest_part.Statement.{statement}
 use Rattle.reassembly_applicable.proofs.part.highest_part.Tie as tie
 

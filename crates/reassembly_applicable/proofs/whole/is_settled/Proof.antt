@@ -7,7 +7,7 @@ use borrow.Author.Needs.{needs}
 use Rattle.set_reach.proofs.Passing.{set-fits}
 use Rattle.set_reach.proofs.Keeping.{Looking, looking-none, looking-past, looking-found, looking-all}
 use Rattle.reassembly_state.specs.Limits.{fragsMost}
-use Rattle.reassembly_applicable.specs.Applicable.{settles}
+use Rattle.set_reach.specs.Applicable.{settles}
 use Rattle.reassembly_applicable.proofs.whole.is_settled.Statement.{statement}
 use Rattle.reassembly_applicable.proofs.whole.is_settled.Tie as tie
 
