@@ -3,8 +3,8 @@
 ghost use mathlib.Core.Path.{_≡_};
 ghost use Rattle.streams_model.specs.Shape.{freshStreams};
 pub use streams_forward::forward_tsn_for_ordered;
-pub use streams_forward::forward_tsn_for_ordered_bounded;
-pub use streams_forward::forward_tsn_for_unordered;
+pub use streams_forward_bounded::forward_tsn_for_ordered_bounded;
+pub use streams_forward_unordered::forward_tsn_for_unordered;
 pub use streams_look::applicable_forward_tsn_for_ordered_bounded;
 pub use streams_look::get_num_bytes;
 pub use streams_model::Forwarded;

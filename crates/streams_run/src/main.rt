@@ -35,7 +35,13 @@ fn skip(
     stream: u16,
     tsn: u32,
 ) -> Streams {
-    let left = streams_forward::forward_tsn_for_unordered(streams, table, pool, stream, tsn);
+    let left = streams_forward_unordered::forward_tsn_for_unordered(
+        streams,
+        table,
+        pool,
+        stream,
+        tsn,
+    );
     print::with_number(b"Stream % skips and holds ", stream as u64);
     held(left.streams, table, pool, stream);
     print::text(b"\n");

@@ -1,1 +1,2 @@
 pub mod Shrunk
+pub mod Ways

@@ -6,7 +6,7 @@ use native.Mathlib.Omega.{arith}
 use borrow.Author.Needs.{needs}
 use Rattle.reassembly_state.specs.Model.{skipOrdered}
 use Rattle.streams_model.specs.State.{State, stateOf, unsound, own, forwardOrdered}
-use Rattle.streams_forward.proofs.Ways.{Skips, ordered-skips, skip-unsound, skip-no-stream, skip-to}
+use Rattle.streams_skips.proofs.Ways.{Skips, ordered-skips, skip-unsound, skip-no-stream, skip-to}
 use Rattle.streams_forward.proofs.forward_tsn_for_ordered.Statement.{statement}
 use Rattle.streams_forward.proofs.forward_tsn_for_ordered.Tie as tie
 

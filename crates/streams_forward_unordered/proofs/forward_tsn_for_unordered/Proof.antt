@@ -1,4 +1,4 @@
--- `streams_forward::forward_tsn_for_unordered` meets its contract: unsound streams and a number of no stream are refused first.
+-- `streams_forward_unordered::forward_tsn_for_unordered` meets its contract: unsound streams and a number of no stream are refused first.
 -- Assumes nothing.
 use mathlib.Core.Path.{_≡_, sym, _∙_}
 use mathlib.Core.Bool.{false}
@@ -6,9 +6,9 @@ use native.Mathlib.Omega.{arith}
 use borrow.Author.Needs.{needs}
 use Rattle.reassembly_state.specs.Model.{skipUnordered}
 use Rattle.streams_model.specs.State.{State, stateOf, unsound, own, forwardUnordered}
-use Rattle.streams_forward.proofs.Ways.{Skips, unordered-skips, skip-unsound, skip-no-stream, skip-to}
-use Rattle.streams_forward.proofs.forward_tsn_for_unordered.Statement.{statement}
-use Rattle.streams_forward.proofs.forward_tsn_for_unordered.Tie as tie
+use Rattle.streams_skips.proofs.Ways.{Skips, unordered-skips, skip-unsound, skip-no-stream, skip-to}
+use Rattle.streams_forward_unordered.proofs.forward_tsn_for_unordered.Statement.{statement}
+use Rattle.streams_forward_unordered.proofs.forward_tsn_for_unordered.Tie as tie
 
 -- what is lent
 abbrev start : tie.After-unsound → tie.Start
