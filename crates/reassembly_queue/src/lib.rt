@@ -66,15 +66,7 @@ impl ReassemblyQueue {
     pub fn new(si: u16, max_message_size: u32) -> Self
         ensures { λ r. ⌜ r ≡ fresh si «max_message_size» ⌝ }
     {
-        ReassemblyQueue {
-            si,
-            next_ssn: 0,
-            max_message_size,
-            finished: 0,
-            unordered: 0,
-            ordered: 0,
-            n_bytes: 0,
-        }
+        queue_of(reassembly_fresh::fresh(si, max_message_size))
     }
 
     // The same counts, as the crates below take them.
