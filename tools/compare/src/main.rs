@@ -28,7 +28,7 @@ const USAGE: &str = "usage:
       out: any calls, unsound states too; replies and the model must answer the same
       PROGRAM is a path, or `model`, or `model:Mistake` with a name that --faults prints
   compare --mode in|out --stream FILE [--seed N] [--calls N]   writes the calls alone
-  compare --answer                                             answers calls on standard input by the model, as the programs do
+  compare --answer [--replies PROGRAM]                         answers calls on standard input as PROGRAM does, or the model where none is named
   compare --record FOLDER --oracle PROGRAM [--seed N]          writes stdin, stdout and source for crates/replies
   compare --faults [--seed N] [--calls N]                      models with a mistake each are found out
   compare --replay PROGRAM --three PROGRAM [--seed N] [--files N] [--seconds N]   files of captured chunks; the programs and the model must write the same
@@ -109,7 +109,8 @@ fn done(options: &Options) -> Result<bool, String> {
         return Ok(replay::faults(seed.unwrap_or(1), 2_000) && found);
     }
     if options.text("answer").is_some() {
-        return answer().map(|()| true).map_err(|e| e.to_string());
+        let who = if options.text("replies").is_some() { options.who("replies")? } else { Who::Model(None) };
+        return answer(&who).map(|()| true);
     }
     if let Some(folder) = options.text("record") {
         return record::write(Path::new(folder), &options.who("oracle")?, seed.unwrap_or(1)).map(|()| true);
@@ -141,12 +142,11 @@ fn done(options: &Options) -> Result<bool, String> {
     Ok(report(&asked, &who, &run::all(&asked, &who)))
 }
 
-/// The model as a program of its own.
-fn answer() -> std::io::Result<()> {
-    let (mut stream, mut lines) = (Vec::new(), Vec::new());
-    std::io::stdin().read_to_end(&mut stream)?;
-    calls::reply(&mut model::Model::new(), &stream, &mut lines);
-    std::io::stdout().write_all(&lines)
+/// Who it is, as a program of its own.
+fn answer(who: &Who) -> Result<(), String> {
+    let mut stream = Vec::new();
+    std::io::stdin().read_to_end(&mut stream).map_err(|e| e.to_string())?;
+    std::io::stdout().write_all(&who.lines(&stream)?).map_err(|e| e.to_string())
 }
 
 /// What was run, how fast, what occurred, and what parts; whether all is well.
