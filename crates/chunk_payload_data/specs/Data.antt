@@ -6,8 +6,9 @@ use mathlib.Core.List.{List, [], _∷_}
 use lib.Dec.{ltb, eqb}
 use lib.ListN.{length}
 use Rattle.wire.specs.Refusal.{none, refuse, Check, when, first, Told, says, answer, Written, write}
-use Rattle.chunk_payload_data.specs.Layout.{Data, DataFits, dataValue, dataChunk}
+use Rattle.data_marshal.specs.Layout.{Data, DataFits, dataValue, dataChunk}
 use Rattle.chunk.specs.Header.{Headed, HeadedFront}
+pub use Rattle.data_marshal.specs.Checks.{sizeChecks}
 pub use Rattle.payload_identifier.specs.Identifier.{identifierNumber}
 unfoldable pub use Rattle.payload_identifier.specs.Identifier.{identifierName}
 pub use Rattle.data_header.specs.Checks.{dataOnly, dataChecks}
@@ -90,10 +91,6 @@ dataFlags p = weighed 1 (p .«ending_fragment») + weighed 2 (p .«beginning_fra
 unfoldable pub dataSent : ChunkPayloadData → Data
 dataSent p =
     record { tsn = p .tsn; stream = p .«stream_identifier»; ssn = p .«stream_sequence_number»; identifier = p .«payload_type» }
-
--- 15: "writing empty data"; 9: "DATA above 65,519 data bytes"
-abbrev pub sizeChecks : ℕ → List Check
-sizeChecks n = when (eqb n 0) 15 ∷ when (ltb 65519 n) 9 ∷ []
 
 unfoldable pub dataWritten : ChunkPayloadData → List ℕ → List ℕ → Written
 dataWritten p user out = write (sizeChecks (length user)) (dataChunk (dataFlags p) (dataSent p) user) out

@@ -1,4 +1,4 @@
-// The DATA chunk of RFC 4960 section 3.3.1: its fields read, and the chunk written. Its header and its user data, and the names of identifiers, are handed on.
+// The DATA chunk of RFC 4960 section 3.3.1: its fields read, and the chunk written from them. Its header and its user data, and the names of identifiers, are handed on.
 ghost use mathlib.Core.Path.{_≡_};
 ghost use Prim.Native.Nat.{_≤_};
 ghost use lib.ListN.{length};
@@ -85,27 +85,14 @@ pub fn flags_of(fields: ChunkPayloadData) -> u8
 pub fn marshal_to(out: &mut [u8], fields: ChunkPayloadData, user: &[u8]) -> Marshalled
     ensures { λ r. ⌜ written (marshalTold r) (now (out .exit)) ≡ dataWritten fields (now (user .entry)) (now (out .entry)) ⌝ }
 {
-    if user.len() == 0 {
-        return Marshalled::Refused(15);
-    }
-    if 65519 < user.len() {
-        return Marshalled::Refused(9);
-    }
-    let size = 16 + user.len();
-    if out.len() < size {
-        return Marshalled::Refused(10);
-    }
     let flags = flags_of(fields);
-    fields::put_front_4224(
+    data_marshal::marshal_to(
         out,
-        0,
         flags,
-        size as u16,
         fields.tsn,
         fields.stream_identifier,
         fields.stream_sequence_number,
         fields.payload_type,
-    );
-    wire::put_bytes(&mut out[16..], user);
-    Marshalled::Bytes(size)
+        user,
+    )
 }

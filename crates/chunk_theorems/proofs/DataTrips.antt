@@ -25,7 +25,7 @@ use Rattle.payload_identifier.specs.declared.PayloadProtocolIdentifier.the-vari
 use Rattle.chunk_payload_data.specs.declared.Unmarshalled as «data»
 use Rattle.chunk_payload_data.specs.declared.Unmarshalled.the-variants as data-is
 use Rattle.chunk.proofs.Headers.{header-front, passes, headed-accepted, chunk-front, chunk-behind, chunk-passes, part-back}
-use Rattle.chunk_payload_data.proofs.DataBytes.{data-value-length}
+use Rattle.data_marshal.proofs.DataBytes.{data-value-length}
 use Rattle.chunk_theorems.proofs.OneAnswer.{data-told-one}
 
 -- ── what is accepted is a DATA chunk of the fields in front and of the user data ──

@@ -20,7 +20,7 @@ use Rattle.chunk_selective_ack.specs.Sack.{SackFront, BlockFits, BlockFront, Ts
 use Rattle.chunk_forward_tsn.specs.ForwardTsn.{Word, ForwardFront, PairFits, PairFront}
 use Rattle.chunk.proofs.Headers.{header-length, FieldsFront}
 use Rattle.entries.proofs.Entries.{two-fit}
-use Rattle.chunk_payload_data.proofs.DataBytes.{data-value-length}
+use Rattle.data_marshal.proofs.DataBytes.{data-value-length}
 use Rattle.sack_marshal.proofs.SackBytes.{block-length, sack-value-length}
 use Rattle.forward_tsn_marshal.proofs.ForwardBytes.{pair-length}
 

@@ -6,7 +6,7 @@ use native.Mathlib.Omega.{arith}
 use Rattle.wire.specs.BigEndian.{bigEndian}
 use Rattle.wire.proofs.Reading.{field}
 use Rattle.chunk.specs.Layout.{headerBytes}
-use Rattle.chunk_payload_data.specs.Layout.{DataFits, dataValue}
+use Rattle.data_marshal.specs.Layout.{DataFits, dataValue}
 use Rattle.chunk_payload_data.specs.Data.{dataHeld, dataShown}
 use Rattle.chunk.proofs.Headers.{headed-whole}
 use Rattle.chunk_payload_data.proofs.fields.Statement.{statement}

@@ -1,54 +1,15 @@
--- `chunk_payload_data::marshal_to` meets its contract: what is empty or too long is refused, and else header, fields and user data stand one behind the other.
+-- `chunk_payload_data::marshal_to` meets its contract: what is written is the chunk with the flags byte and the numbers of these fields.
 -- Assumes nothing.
 use borrow.Author.Needs.{needs}
-use borrow.Author.Tests.{eq-eqb, ne-eqb, lt-ltb, le-ltb}
-use lib.ListN.{length}
-use Rattle.wire.proofs.Writing.{write-short, write-done}
-use Rattle.chunk_payload_data.specs.Layout.{dataValue, dataChunk}
-use Rattle.chunk_payload_data.specs.Data.{dataFlags, dataSent, sizeChecks, dataWritten}
-use Rattle.chunk.proofs.Headers.{chunk-put}
-use Rattle.chunk_payload_data.proofs.DataBytes.{data-value-length, data-chunk-length}
+use Rattle.chunk_payload_data.specs.Data.{dataSent, dataWritten}
 use Rattle.chunk_payload_data.proofs.marshal_to.Statement.{statement}
 use Rattle.chunk_payload_data.proofs.marshal_to.Tie as tie
 
-empty : tie.Need-returns
-unfolding dataWritten
-empty c = rw (eq-eqb _ 0 (c .if1 .taken))
-
-long : tie.Need-returns-2
-unfolding dataWritten
-long c = rw (ne-eqb _ 0 (c .before .if1 .left), lt-ltb 65519 _ (c .if2 .taken))
-
-short : tie.Need-returns-3
-unfolding dataWritten
-short c =
-    let two = c .before in
-    let one = two .before in
-    let a = one .before .before .before .args in
-    write-short (sizeChecks (length (a .user .now))) (dataChunk (dataFlags (a .fields)) (dataSent (a .fields)) (a .user .now)) (a .out .now)
-    (rw (ne-eqb _ 0 (one .if1 .left), le-ltb 65519 _ (two .if2 .left))) (data-chunk-length (dataFlags (a .fields)) (dataSent (a .fields)) (a .user .now)) (c .if3 .taken)
-
-done : tie.Need-returns-4
-unfolding dataWritten dataValue dataSent
-done c =
-    let u = c .before .before in
-    let h = u .before .before .before .before in
-    let f = h .before .before in
-    let three = f .before in
-    let two = three .before in
-    let one = two .before in
-    let a = one .before .before .before .args in
-    let out = a .out .now in
-    let user = a .user .now in
-    let flags = dataFlags (a .fields) in
-    let sent = dataSent (a .fields) in
-    write-done (sizeChecks (length user)) (dataChunk flags sent user) out
-    (rw (ne-eqb _ 0 (one .if1 .left), le-ltb 65519 _ (two .if2 .left))) (data-chunk-length flags sent user) (three .if3 .left)
-    (chunk-put 0 flags 12 (dataValue sent) user out (data-value-length sent) (rw (f .flags-of .ensures) at (h .put-front-4224 .ensures)) (u .put-bytes .ensures))
+returns : tie.Need-returns
+unfolding dataSent dataWritten
+returns c =
+    let m = c .before .before in
+    rw (← (m .before .before .flags-of .ensures)) (m .marshal-to .ensures)
 
 pub marshal-to-spec : {M : Type 1} → statement M
-marshal-to-spec =
-    tie.close
-    (tie.spec empty long (λ c. search needs) short (λ c κs. search needs) (λ c. search needs) (λ c κs. search needs)
-    (λ c. search needs) (λ c. search needs) (λ c. search needs) (λ c κs. search needs)
-    (λ c. search needs) done)
+marshal-to-spec = tie.close (tie.spec (λ c κs. search needs) (λ c κs. search needs) (λ c. search needs) returns)

@@ -5,7 +5,7 @@ use borrow.Author.Needs.{needs}
 use native.Mathlib.Omega.{arith}
 use lib.ListN.{length}
 use Rattle.chunk.specs.Layout.{Header}
-use Rattle.chunk_payload_data.specs.Layout.{DataFits, dataValue}
+use Rattle.data_marshal.specs.Layout.{DataFits, dataValue}
 use Rattle.chunk_payload_data.specs.Data.{dataChecks, dataRead}
 use Rattle.chunk.proofs.Headers.{header-front, told-refused, told-taken}
 use Rattle.chunk_payload_data.proofs.unmarshal.Statement.{statement}

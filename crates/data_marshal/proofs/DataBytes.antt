@@ -6,7 +6,7 @@ use Prim.Native.Nat.{ℕ, _+_}
 use native.Mathlib.Omega.{arith}
 use lib.ListN.{length, length-append}
 use Rattle.wire.specs.BigEndian.{bigEndian}
-use Rattle.chunk_payload_data.specs.Layout.{Data, dataValue, dataChunk}
+use Rattle.data_marshal.specs.Layout.{Data, dataValue, dataChunk}
 use Rattle.chunk.proofs.Headers.{header-length}
 
 pub data-value-length : (d : Data) → length (dataValue d) ≡ 12
