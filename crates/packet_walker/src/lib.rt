@@ -1,35 +1,10 @@
-// A walk over the chunks of a packet: the packet and a place in it, kept together, and thin calls over those that take both.
+// A walk over the chunks of a packet: the packet and a place in it, kept together, and thin calls over those that take both, two of which are handed on.
 ghost use mathlib.Core.Path.{_≡_};
 ghost use Rattle.packet_chunks.specs.Chunks.{stepTold, stepAt};
-ghost use Rattle.packet_walker.specs.Walk.{lies, bytesAt, placeAfter};
+ghost use Rattle.packet_places.specs.Walk.{lies, bytesAt, placeAfter};
 use packet_chunks::Step;
-
-// The bytes of the chunk at a place, as a part of the packet; empty where there is none.
-pub fn bytes_at(packet: &[u8], at: usize) -> &[u8]
-    ensures { λ r. ⌜ lies r ≡ bytesAt (packet .entry) at ⌝ }
-{
-    let step = packet_chunks::chunk_at(packet, at);
-    match step {
-        Step::Refused(k) => &packet[..0],
-        Step::End => &packet[..0],
-        Step::Chunk(found) => {
-            let end = found.end;
-            &packet[at..end]
-        }
-    }
-}
-
-// The place behind the chunk at a place; that place itself where there is none.
-pub fn place_after(packet: &[u8], at: usize) -> usize
-    ensures { λ r. ⌜ r ≡ placeAfter (now (packet .entry)) at ⌝ }
-{
-    let step = packet_chunks::chunk_at(packet, at);
-    match step {
-        Step::Refused(k) => at,
-        Step::End => at,
-        Step::Chunk(found) => found.next,
-    }
-}
+pub use packet_places::bytes_at;
+pub use packet_places::place_after;
 
 pub struct Walker<'a> {
     pub packet: &'a [u8],

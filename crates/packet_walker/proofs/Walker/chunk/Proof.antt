@@ -7,10 +7,10 @@ use contract.Monad.{fact-mono}
 use contract.Running.{givenOf}
 use denote.Builtin.{u8, SliceRef}
 use denote.Slice.{sliceTy, shr-slice-lawful}
-use Rattle.packet_walker.specs.Walk.{lies, bytesAt}
-use Rattle.packet_walker.proofs.bytes_at as bytes-at
-use Rattle.packet_walker.proofs.bytes_at.Symbol.{name as #bytes-at, routine}
-use Rattle.packet_walker.proofs.bytes_at.Met.{met}
+use Rattle.packet_places.specs.Walk.{lies, bytesAt}
+use Rattle.packet_places.proofs.bytes_at as bytes-at
+use Rattle.packet_places.proofs.bytes_at.Symbol.{name as #bytes-at, routine}
+use Rattle.packet_places.proofs.bytes_at.Met.{met}
 use Rattle.packet_walker.proofs.Codes.{relays}
 use Rattle.packet_walker.proofs.Method.{Made, runs}
 use Rattle.packet_walker.proofs.Walker.chunk.Key.{name as #chunk}
@@ -25,7 +25,7 @@ chunk-spec 𝓤 H 𝓜 𝓖 𝓡 =
     let W = givenOf 𝓤 H 𝓜 𝓖 in
     let asked = bytes-at.clauses 𝓤 H A (𝓜 .mem) (𝓡 .run) in
     let told = chunk.clauses 𝓤 H A (𝓜 .mem) (𝓡 .run) in
-    runs 𝓤 H 𝓜 𝓡 code.env #chunk #bytes-at code.function (code.unfolded 𝓤 H 𝓜 𝓡) routine code.calls-packet-walker·bytes-at
+    runs 𝓤 H 𝓜 𝓡 code.env #chunk #bytes-at code.function (code.unfolded 𝓤 H 𝓜 𝓡) routine code.calls-packet-places·bytes-at
     (Made 𝓤 H A bytes-at.ended asked) (met 𝓤 H 𝓜 𝓖 𝓡) (Made 𝓤 H A chunk.ended told)
     (relays 𝓤 H A W (SliceRef 0 tt u8 tt) (sliceTy (tyRef (named 0) imm (tyInt w8))) #bytes-at (λ κs r u is. shr-slice-lawful 𝓤 H A W (named 0) (κs .0) u8 .typed r _ is .0) asked (λ κs d. (tt, id⊢ 𝓤 _)) told
     (λ κs d g r. fact-mono 𝓤 (lies r ≡ bytesAt (d .packet) (d .place)) _ (λ e i. e i)))

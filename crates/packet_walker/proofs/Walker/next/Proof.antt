@@ -5,10 +5,10 @@ use base.Logic.{id⊢}
 use contract.Monad.{fact-mono}
 use contract.Running.{givenOf}
 use denote.Ref.{now}
-use Rattle.packet_walker.specs.Walk.{placeAfter}
-use Rattle.packet_walker.proofs.place_after as place-after
-use Rattle.packet_walker.proofs.place_after.Symbol.{name as #place-after, routine}
-use Rattle.packet_walker.proofs.place_after.Met.{met}
+use Rattle.packet_places.specs.Walk.{placeAfter}
+use Rattle.packet_places.proofs.place_after as place-after
+use Rattle.packet_places.proofs.place_after.Symbol.{name as #place-after, routine}
+use Rattle.packet_places.proofs.place_after.Met.{met}
 use Rattle.packet_walker.proofs.Codes.{goes-on}
 use Rattle.packet_walker.proofs.Method.{Made, runs}
 use Rattle.packet_walker.proofs.Walker.next.Key.{name as #next}
@@ -22,7 +22,7 @@ next-spec 𝓤 H 𝓜 𝓖 𝓡 =
     let A = 𝓖 .A in
     let asked = place-after.clauses 𝓤 H A (𝓜 .mem) (𝓡 .run) in
     let told = next.clauses 𝓤 H A (𝓜 .mem) (𝓡 .run) in
-    runs 𝓤 H 𝓜 𝓡 code.env #next #place-after code.function (code.unfolded 𝓤 H 𝓜 𝓡) routine code.calls-packet-walker·place-after
+    runs 𝓤 H 𝓜 𝓡 code.env #next #place-after code.function (code.unfolded 𝓤 H 𝓜 𝓡) routine code.calls-packet-places·place-after
     (Made 𝓤 H A place-after.ended asked) (met 𝓤 H 𝓜 𝓖 𝓡) (Made 𝓤 H A next.ended told)
     (goes-on 𝓤 H A (givenOf 𝓤 H 𝓜 𝓖) #place-after asked (λ κs d. (tt, id⊢ 𝓤 _)) told
     (λ κs d g n. fact-mono 𝓤 (n ≡ placeAfter (now (d .packet)) (d .place)) _ (λ e. (refl, e))))

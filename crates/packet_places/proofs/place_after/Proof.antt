@@ -1,12 +1,12 @@
--- `packet_walker::place_after` meets its contract: the step decides.
+-- `packet_places::place_after` meets its contract: the step decides.
 -- Assumes nothing.
 use mathlib.Core.Path.{ap}
 use borrow.Author.Needs.{needs}
 use Rattle.wire.specs.Refusal.{Told}
 use Rattle.packet_chunks.specs.Chunks.{Spot}
-use Rattle.packet_walker.specs.Walk.{spotNext, placeAfter}
-use Rattle.packet_walker.proofs.place_after.Statement.{statement}
-use Rattle.packet_walker.proofs.place_after.Tie as tie
+use Rattle.packet_places.specs.Walk.{spotNext, placeAfter}
+use Rattle.packet_places.proofs.place_after.Statement.{statement}
+use Rattle.packet_places.proofs.place_after.Tie as tie
 
 refused : tie.Need-returns
 unfolding placeAfter

@@ -1,4 +1,4 @@
--- `packet_walker::bytes_at` meets its contract: the step decides, and the part is what its places say.
+-- `packet_places::bytes_at` meets its contract: the step decides, and the part is what its places say.
 -- Assumes nothing.
 use mathlib.Core.Path.{ap}
 use borrow.Author.Needs.{needs}
@@ -6,9 +6,9 @@ use native.Mathlib.Omega.{arith}
 use Rattle.wire.specs.Refusal.{Told}
 use Rattle.packet_chunks.specs.Chunks.{Spot}
 use Rattle.packet_chunks.proofs.Steps.{Reached, reached}
-use Rattle.packet_walker.specs.Walk.{spotBytes, bytesAt}
-use Rattle.packet_walker.proofs.bytes_at.Statement.{statement}
-use Rattle.packet_walker.proofs.bytes_at.Tie as tie
+use Rattle.packet_places.specs.Walk.{spotBytes, bytesAt}
+use Rattle.packet_places.proofs.bytes_at.Statement.{statement}
+use Rattle.packet_places.proofs.bytes_at.Tie as tie
 
 -- a chunk that is found lies within the packet
 places : (c : tie.After-known-told2) → (let m = c .before in let f = m .step2 .given .0 .0 in let a = m .before .before .before .before .args in Reached (a .packet .now) (a .at) (f .end) (f .next))
