@@ -41,7 +41,7 @@ pub extern "C" fn sctp_receive_forward_tsn_stream_at(
 ) -> i32
     ensures { λ r. ⌜ ((f : PairFront (now (part .entry)) i) → told r (pair (now (identifier .exit)) (now (sequence .exit))) ≡ pairRead (now (part .entry)) i (f .fields)) ⌝ }
 {
-    sctp_receive_forward_chunk::stream_at(part, i, identifier, sequence)
+    sctp_receive_forward_pairs::stream_at(part, i, identifier, sequence)
 }
 
 // The FORWARD TSN chunk of this point and these streams and SSNs, written to the front of the lent buffer; n is its byte count; 9 and 10.
@@ -55,5 +55,5 @@ pub extern "C" fn sctp_receive_forward_tsn_marshal_to(
 ) -> i32
     ensures { λ r. ⌜ written (told r (now (n .exit))) (now (out .exit)) ≡ forwardWritten «new_cumulative_tsn» (now (identifiers .entry)) (now (sequences .entry)) (now (out .entry)) ⌝ }
 {
-    sctp_receive_forward_chunk::marshal_to(out, new_cumulative_tsn, identifiers, sequences, n)
+    sctp_receive_forward_pairs::marshal_to(out, new_cumulative_tsn, identifiers, sequences, n)
 }

@@ -3,8 +3,8 @@
 use borrow.Author.Needs.{needs}
 use native.Mathlib.Omega.{arith}
 use Rattle.sctp_receive_result.proofs.Codes.{back-refuse}
-use Rattle.sctp_receive_forward_chunk.proofs.stream_at.Statement.{statement}
-use Rattle.sctp_receive_forward_chunk.proofs.stream_at.Tie as tie
+use Rattle.sctp_receive_forward_pairs.proofs.stream_at.Statement.{statement}
+use Rattle.sctp_receive_forward_pairs.proofs.stream_at.Tie as tie
 
 taken : tie.Need-returns
 taken c f = rw (← (c .before .before .before .stream-at .ensures f), c .before .answer .given .1)
