@@ -1,10 +1,6 @@
-// What reading the causes of an ERROR or ABORT chunk is made of: the cause at a place, the chunk in a cause's value, and what is told of a cause put into a lent list.
-ghost use mathlib.Core.Path.{_≡_};
-ghost use Prim.Native.Nat.{_+_, _-_, _≤_};
-ghost use mathlib.Core.List.{[], _∷_};
+// What reading the causes of an ERROR or ABORT chunk is made of: the cause at a place, and the chunk in a cause's value.
+ghost use Prim.Native.Nat.{_≤_};
 ghost use lib.ListN.{length, drop};
-ghost use Rattle.cause_parts.specs.Causes.{cause};
-ghost use Rattle.cause_parts.specs.Lists.{fieldOf, noted};
 ghost use Rattle.cause_parts.specs.Fronts.{CauseAt, ChunkAt};
 use chunk::chunk_header;
 
@@ -72,44 +68,5 @@ pub fn chunk_at(raw: &[u8], at: usize) -> Held
             }
             Held::Nothing
         }
-    }
-}
-
-// What is told of a cause: its code, its depth, the start of its value, the value's length.
-pub const CODES: u8 = 0;
-
-pub const DEPTHS: u8 = 1;
-
-pub const STARTS: u8 = 2;
-
-pub const SIZES: u8 = 3;
-
-// One of these, of the cause at a place.
-fn field(told: u8, at: usize, depth: u16, h: CauseHeader) -> u16
-    requires { ⌜ at + 4 ≤ 65535 ⌝ }
-    requires { ⌜ 4 ≤ h .size ⌝ }
-    ensures { λ r. ⌜ r ≡ fieldOf told (cause (h .code) depth (at + 4) (h .size - 4)) ⌝ }
-{
-    if told == CODES {
-        return h.code;
-    }
-    if told == DEPTHS {
-        return depth;
-    }
-    if told == STARTS {
-        let start = at + 4;
-        return start as u16;
-    }
-    h.size - 4
-}
-
-// It goes into a list, as number n, where the list has that place.
-pub fn note(told: u8, n: usize, at: usize, depth: u16, h: CauseHeader, list: &mut [u16])
-    requires { ⌜ at + 4 ≤ 65535 ⌝ }
-    requires { ⌜ 4 ≤ h .size ⌝ }
-    ensures { λ _. ⌜ now (list .exit) ≡ noted told n (cause (h .code) depth (at + 4) (h .size - 4) ∷ []) (now (list .entry)) ⌝ }
-{
-    if n < list.len() {
-        list[n] = field(told, at, depth, h);
     }
 }

@@ -6,10 +6,10 @@ ghost use Rattle.cause_parts.specs.Causes.{causes};
 ghost use Rattle.cause_parts.specs.Lists.{lists};
 ghost use Rattle.error_causes.specs.Counts.{countTold, counted};
 ghost use Rattle.cause_report.specs.Report.{lacking, report, listed, reported};
-use cause_parts::CODES;
-use cause_parts::DEPTHS;
-use cause_parts::SIZES;
-use cause_parts::STARTS;
+use cause_notes::CODES;
+use cause_notes::DEPTHS;
+use cause_notes::SIZES;
+use cause_notes::STARTS;
 use chunk::chunk_header;
 use error_causes::Counted;
 

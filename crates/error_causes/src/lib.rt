@@ -67,7 +67,7 @@ pub fn read_causes(
                 let size = h.size;
                 let start = at + 4;
                 let end = at + size as usize;
-                cause_parts::note(told, n, at, depth, h, list);
+                cause_notes::note(told, n, at, depth, h, list);
                 n += 1;
                 at += packet_parts::padded_size(size);
                 if code == UNRECOGNIZED_CHUNK_TYPE {

@@ -23,7 +23,7 @@ use Rattle.error_causes.proofs.read_chunk.Kinds as read-chunk-kinds
 use Rattle.error_causes.proofs.+read_causes+read_chunk.Lts-read_chunk as chunk
 use Rattle.cause_parts.proofs.cause_at.Reads as cause-at
 use Rattle.cause_parts.proofs.chunk_at.Reads as chunk-at
-use Rattle.cause_parts.proofs.note.Reads as note
+use Rattle.cause_notes.proofs.note.Reads as note
 use Rattle.packet_parts.proofs.padded_size.Reads as padded-size
 use Rattle.error_causes.proofs.+read_causes+read_chunk.{statement}
 use Rattle.error_causes.proofs.+read_causes+read_chunk.Tie.{close}

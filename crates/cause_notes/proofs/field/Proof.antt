@@ -1,9 +1,9 @@
--- `cause_parts::field` meets its contract: each `return` is what the number stands for.
+-- `cause_notes::field` meets its contract: each `return` is what the number stands for.
 -- Assumes nothing.
 use borrow.Author.Needs.{needs}
 use borrow.Author.Tests.{eq-eqb, ne-eqb}
-use Rattle.cause_parts.proofs.field.Statement.{statement}
-use Rattle.cause_parts.proofs.field.Tie as tie
+use Rattle.cause_notes.proofs.field.Statement.{statement}
+use Rattle.cause_notes.proofs.field.Tie as tie
 
 pub field-spec : {M : Type 1} → statement M
 field-spec =

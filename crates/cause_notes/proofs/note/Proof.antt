@@ -1,13 +1,13 @@
--- `cause_parts::note` meets its contract: past the end of a list nothing is put.
+-- `cause_notes::note` meets its contract: past the end of a list nothing is put.
 -- Assumes nothing.
 use mathlib.Core.Path.{sym, ap}
 use Prim.Native.Nat.{ℕ}
 use borrow.Author.Needs.{needs}
 use lib.ListN.{set}
 use lib.Seq.{set-out}
 use Rattle.cause_parts.specs.Lists.{noted}
-use Rattle.cause_parts.proofs.note.Statement.{statement}
-use Rattle.cause_parts.proofs.note.Tie as tie
+use Rattle.cause_notes.proofs.note.Statement.{statement}
+use Rattle.cause_notes.proofs.note.Tie as tie
 
 put : tie.Need-returns
 unfolding noted
