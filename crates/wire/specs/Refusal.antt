@@ -5,7 +5,7 @@ use mathlib.Core.Bool.{Bool, cond}
 use mathlib.Core.List.{List, [], _∷_, _++_}
 use lib.Dec.{ltb}
 use lib.ListN.{length}
-use Rattle.wire.specs.BigEndian.{over}
+use Rattle.wire_put.specs.BigEndian.{over}
 
 -- document 01's number, or none
 pub data Refusal : Type 0 where

@@ -1,14 +1,14 @@
--- `wire::put_bytes` meets its contract: after i turns the first i bytes stand at the front.
+-- `wire_put::put_bytes` meets its contract: after i turns the first i bytes stand at the front.
 -- Assumes nothing.
 use mathlib.Core.Path.{_≡_, refl}
 use Prim.Native.Nat.{_≤_, _-_}
 use native.Mathlib.Omega.{arith}
 use lib.ListN.{length, take, length-set}
 use lib.Seq.{take-all}
-use Rattle.wire.specs.BigEndian.{over}
-use Rattle.wire.proofs.Laws.{copy-turn}
-use Rattle.wire.proofs.put_bytes.Statement.{statement}
-use Rattle.wire.proofs.put_bytes.Tie as tie
+use Rattle.wire_put.specs.BigEndian.{over}
+use Rattle.wire_put.proofs.Laws.{copy-turn}
+use Rattle.wire_put.proofs.put_bytes.Statement.{statement}
+use Rattle.wire_put.proofs.put_bytes.Tie as tie
 
 abbrev Inv : tie.InvT-loop
 Inv out₀ bytes i₀ out i = (i ≤ length bytes) × (length out ≡ length out₀) × (out ≡ over out₀ (take i bytes))

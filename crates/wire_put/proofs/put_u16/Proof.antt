@@ -1,10 +1,10 @@
--- `wire::put_u16` meets its contract: its bytes are stored from the front on.
+-- `wire_put::put_u16` meets its contract: its bytes are stored from the front on.
 -- Assumes nothing.
 use borrow.Author.Needs.{needs}
-use Rattle.wire.specs.BigEndian.{bigEndian}
-use Rattle.wire.proofs.Laws.{put-front}
-use Rattle.wire.proofs.put_u16.Statement.{statement}
-use Rattle.wire.proofs.put_u16.Tie as tie
+use Rattle.wire_put.specs.BigEndian.{bigEndian}
+use Rattle.wire_put.proofs.Laws.{put-front}
+use Rattle.wire_put.proofs.put_u16.Statement.{statement}
+use Rattle.wire_put.proofs.put_u16.Tie as tie
 
 returns : tie.Need-returns
 unfolding bigEndian

@@ -8,7 +8,7 @@ use native.Mathlib.Omega.{arith}
 use native.Mathlib.Numerals.{add-one}
 use lib.ListN.{length, getD, take, drop, set, length-append, length-drop}
 use lib.Seq.{take-at, drop-at, drop-drop, drop-cons, set-at, append-snoc}
-use Rattle.wire.specs.BigEndian.{bigEndian, over}
+use Rattle.wire_put.specs.BigEndian.{bigEndian, over}
 
 -- k bytes are k bytes long
 pub big-endian-length : (k x : ℕ) → length (bigEndian k x) ≡ k

@@ -1,14 +1,14 @@
--- `wire::put_u8` meets its contract: one store at the front.
+-- `wire_put::put_u8` meets its contract: one store at the front.
 -- Assumes nothing.
 use mathlib.Core.Path.{_≡_}
 use mathlib.Core.List.{[], _∷_}
 use Prim.Native.Nat.{_%_}
 use borrow.Author.Needs.{needs}
 use native.Mathlib.Omega.{arith}
-use Rattle.wire.specs.BigEndian.{bigEndian}
-use Rattle.wire.proofs.Laws.{put-front}
-use Rattle.wire.proofs.put_u8.Statement.{statement}
-use Rattle.wire.proofs.put_u8.Tie as tie
+use Rattle.wire_put.specs.BigEndian.{bigEndian}
+use Rattle.wire_put.proofs.Laws.{put-front}
+use Rattle.wire_put.proofs.put_u8.Statement.{statement}
+use Rattle.wire_put.proofs.put_u8.Tie as tie
 
 returns : tie.Need-returns
 unfolding bigEndian
