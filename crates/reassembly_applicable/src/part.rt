@@ -1,11 +1,9 @@
 // How much of a skip applies where not all of it does.
 ghost use mathlib.Core.Path.{_≡_};
-ghost use mathlib.Core.Bool.{cond};
 ghost use mathlib.Core.List.{map};
 ghost use Prim.Native.Nat.{_+_, _*_, _≤_, _<_};
 ghost use lib.ListN.{length, take, drop};
 ghost use Rattle.wire.specs.Refusal.{none, says};
-ghost use Rattle.serial.specs.Serial.{before};
 ghost use Rattle.table.specs.Rows.{rowsOf};
 ghost use Rattle.fragments.specs.Frag.{bare};
 ghost use Rattle.fragment_sets.specs.Sets.{sets};
@@ -45,19 +43,6 @@ fn ends_part(
     serial::sna32lte(first.tsn, peer_last_tsn)
 }
 
-// The higher of two SSNs, the first of them on a tie; the second where there is no first.
-fn higher(found: bool, kept: u16, ssn: u16) -> u16
-    ensures { λ r. ⌜ r ≡ cond found (cond (before 16 kept ssn) ssn kept) ssn ⌝ }
-{
-    if !found {
-        return ssn;
-    }
-    if serial::sna16gt(ssn, kept) {
-        return ssn;
-    }
-    kept
-}
-
 // The highest SSN of the sets that may end a part.
 pub fn highest_part(
     table: &[u32],
@@ -81,7 +66,7 @@ pub fn highest_part(
         i += k;
         if ends_part(table, at, k, expected, last_ssn, tsn, peer_last_tsn) {
             let first = table::row_at(table, FRAGMENTS, at);
-            highest = higher(found, highest, (first.id % 65536) as u16);
+            highest = kept_ssn::higher(found, highest, (first.id % 65536) as u16);
             found = true;
         }
     }

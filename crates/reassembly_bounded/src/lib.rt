@@ -1,10 +1,9 @@
 // An ordered skip held over a stream reset: it drops what the cumulative point reaches, and carries the expected SSN no further than that.
 ghost use mathlib.Core.Path.{_≡_};
-ghost use mathlib.Core.Bool.{false, cond};
+ghost use mathlib.Core.Bool.{false};
 ghost use Prim.Native.Nat.{_+_, _*_, _≤_, _<_};
 ghost use mathlib.Core.List.{map};
 ghost use lib.ListN.{length, take, drop};
-ghost use Rattle.serial.specs.Serial.{before};
 ghost use Rattle.table.specs.Rows.{rowsOf};
 ghost use Rattle.fragments.specs.Frag.{bare};
 ghost use Rattle.reassembly_state.specs.Limits.{fragsMost};
@@ -31,19 +30,6 @@ fn holds_back(table: &[u32], at: usize, k: usize, last_ssn: u16, tsn: u32) -> bo
     !set_reach::is_reached(table, FRAGMENTS, at, k, tsn)
 }
 
-// The lower of two SSNs, the first of them on a tie; the second where there is no first.
-fn lower(found: bool, kept: u16, ssn: u16) -> u16
-    ensures { λ r. ⌜ r ≡ cond found (cond (before 16 ssn kept) ssn kept) ssn ⌝ }
-{
-    if !found {
-        return ssn;
-    }
-    if serial::sna16lt(ssn, kept) {
-        return ssn;
-    }
-    kept
-}
-
 // How far the expected SSN may move: to the lowest SSN of the sets that hold it back, else to the one after the last.
 fn limit(table: &[u32], from: usize, n: usize, last_ssn: u16, tsn: u32) -> u16
     requires { ⌜ length (now table) ≡ 4 * fragsMost ⌝ }
@@ -59,7 +45,7 @@ fn limit(table: &[u32], from: usize, n: usize, last_ssn: u16, tsn: u32) -> u16
         i += k;
         if holds_back(table, at, k, last_ssn, tsn) {
             let first = table::row_at(table, FRAGMENTS, at);
-            lowest = lower(found, lowest, (first.id % 65536) as u16);
+            lowest = kept_ssn::lower(found, lowest, (first.id % 65536) as u16);
             found = true;
         }
     }

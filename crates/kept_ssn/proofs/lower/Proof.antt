@@ -1,10 +1,10 @@
--- `reassembly_bounded::lower` meets its contract: its tests are those of the promise.
+-- `kept_ssn::lower` meets its contract: its tests are those of the promise.
 -- Assumes nothing.
 use mathlib.Core.Path.{sym, _∙_}
 use borrow.Author.Needs.{needs}
 use borrow.Author.Tests.{not-true, not-false}
-use Rattle.reassembly_bounded.proofs.lower.Statement.{statement}
-use Rattle.reassembly_bounded.proofs.lower.Tie as tie
+use Rattle.kept_ssn.proofs.lower.Statement.{statement}
+use Rattle.kept_ssn.proofs.lower.Tie as tie
 
 first : tie.Need-returns
 first c = let a = c .before .args in rw (not-true (a .found) (c .if1 .taken))
