@@ -169,7 +169,7 @@ impl PayloadQueue {
     pub fn get_last_tsn_received(self, table: &[u32; WORDS]) -> LastTsn
         ensures { λ r. ⌜ lastTold r ≡ lastTsn (queueOf self (now (table .entry))) ⌝ }
     {
-        payload_look::get_last_tsn_received(self.counts(), table)
+        payload_held::get_last_tsn_received(self.counts(), table)
     }
 
     // The sum of the held data lengths.
@@ -197,6 +197,6 @@ impl PayloadQueue {
     pub fn contains_stream(self, table: &[u32; WORDS], stream: u16) -> Flag
         ensures { λ r. ⌜ flagTold r ≡ containsStream (queueOf self (now (table .entry))) stream ⌝ }
     {
-        payload_look::contains_stream(self.counts(), table, stream)
+        payload_held::contains_stream(self.counts(), table, stream)
     }
 }

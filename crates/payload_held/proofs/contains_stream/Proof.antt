@@ -1,12 +1,12 @@
--- `payload_look::contains_stream` meets its contract: an unsound queue is refused, and else the held records say.
+-- `payload_held::contains_stream` meets its contract: an unsound queue is refused, and else the held records say.
 -- Assumes nothing.
 use mathlib.Core.Path.{sym, _∙_}
 use borrow.Author.Needs.{needs}
 use native.Mathlib.Omega.{arith}
 use Rattle.payload_model.proofs.Laws.{sound}
 use Rattle.payload_model.specs.Queue.{containsStream}
-use Rattle.payload_look.proofs.contains_stream.Statement.{statement}
-use Rattle.payload_look.proofs.contains_stream.Tie as tie
+use Rattle.payload_held.proofs.contains_stream.Statement.{statement}
+use Rattle.payload_held.proofs.contains_stream.Tie as tie
 
 refused : tie.Need-returns
 unfolding containsStream

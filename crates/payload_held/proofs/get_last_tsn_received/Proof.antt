@@ -1,4 +1,4 @@
--- `payload_look::get_last_tsn_received` meets its contract: an unsound queue is refused, and else the held records say.
+-- `payload_held::get_last_tsn_received` meets its contract: an unsound queue is refused, and else the held records say.
 -- Assumes nothing.
 use mathlib.Core.Path.{_≡_, sym, ap, _∙_}
 use borrow.Author.Needs.{needs}
@@ -9,8 +9,8 @@ use lib.Seq.{getD-take}
 use Rattle.table.specs.Rows.{blank}
 use Rattle.payload_model.specs.Queue.{queueOf, lastTsn}
 use Rattle.payload_model.proofs.Laws.{sound}
-use Rattle.payload_look.proofs.get_last_tsn_received.Statement.{statement}
-use Rattle.payload_look.proofs.get_last_tsn_received.Tie as tie
+use Rattle.payload_held.proofs.get_last_tsn_received.Statement.{statement}
+use Rattle.payload_held.proofs.get_last_tsn_received.Tie as tie
 
 refused : tie.Need-returns
 unfolding lastTsn
