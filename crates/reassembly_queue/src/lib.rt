@@ -107,7 +107,7 @@ impl ReassemblyQueue {
     pub fn is_readable(self, table: &[u32; WORDS], pool: &[u8]) -> Flag
         ensures { λ r. ⌜ flagTold r ≡ isReadable (stateOf self (now (table .entry)) (now (pool .entry))) ⌝ }
     {
-        reassembly_turn::is_readable(self.counts(), table, pool)
+        reassembly_readable::is_readable(self.counts(), table, pool)
     }
 
     // Takes the oldest finished unordered message, else the first ordered set if it is complete and not after the expected one, to the front

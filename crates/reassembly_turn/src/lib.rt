@@ -1,4 +1,4 @@
-// The message that is next to be taken: whether there is one, where it stands, and the counts without it.
+// The message that is next to be taken: where it stands, and the counts without it.
 ghost use mathlib.Core.Path.{_≡_};
 ghost use mathlib.Core.List.{List};
 ghost use mathlib.Core.Bool.{cond};
@@ -7,16 +7,13 @@ ghost use lib.Dec.{ltb};
 ghost use lib.ListN.{length, take, drop};
 ghost use Rattle.table.specs.Rows.{rowsOf, aheadOf};
 ghost use Rattle.fragments.specs.Frag.{ends, ofRow};
-ghost use Rattle.chunks.specs.Message.{flagTold};
 ghost use Rattle.reassembly_state.specs.Limits.{fragsMost};
 ghost use Rattle.reassembly_state.specs.Model.{readySet};
-ghost use Rattle.reassembly_state.specs.State.{stateOf, count, view, isReadable};
+ghost use Rattle.reassembly_state.specs.State.{stateOf, count, view};
 ghost use Rattle.reassembly_state.specs.Rows.{InTurn, withoutMessage};
-use chunks::Flag;
 use loose_fragments::Span;
 use reassembly_state::Counts;
 use reassembly_state::FRAGMENTS;
-use reassembly_state::WORDS;
 
 // How many rows the first ordered set has, if it can be taken; else 0.
 pub fn ready(queue: Counts, table: &[u32]) -> usize
@@ -88,15 +85,4 @@ pub fn without(queue: Counts, k: usize, bytes: usize, ssn: u16) -> Counts
         left.next_ssn = serial::ssn_next(ssn);
     }
     left
-}
-
-// Whether a message can be taken.
-pub fn is_readable(counts: Counts, table: &[u32; WORDS], pool: &[u8]) -> Flag
-    ensures { λ r. ⌜ flagTold r ≡ isReadable (stateOf counts (now (table .entry)) (now (pool .entry))) ⌝ }
-{
-    if counts.unsound(table, pool) {
-        return Flag::Refused(0);
-    }
-    let turn = in_turn(counts, table);
-    Flag::Is(turn.from < turn.to)
 }

@@ -1,4 +1,4 @@
--- `reassembly_turn::is_readable` meets its contract: an unsound queue is refused, and else a message is there where its run has a fragment.
+-- `reassembly_readable::is_readable` meets its contract: an unsound queue is refused, and else a message is there where its run has a fragment.
 -- Assumes nothing.
 use mathlib.Core.Path.{_≡_, sym, _∙_}
 use borrow.Author.Needs.{needs}
@@ -8,9 +8,9 @@ use Rattle.table.proofs.Columns.{rows-long}
 use Rattle.reassembly_state.specs.Limits.{fragsMost}
 use Rattle.reassembly_state.specs.State.{State, stateOf, isReadable}
 use Rattle.reassembly_state.proofs.Laws.{Sound, sound}
 use Rattle.reassembly_turn.proofs.Turn.{readable-is}
-use Rattle.reassembly_turn.proofs.is_readable.Statement.{statement}
-use Rattle.reassembly_turn.proofs.is_readable.Tie as tie
+use Rattle.reassembly_readable.proofs.is_readable.Statement.{statement}
+use Rattle.reassembly_readable.proofs.is_readable.Tie as tie
 
 -- the queue that is lent
 abbrev of : tie.Else1 → State
