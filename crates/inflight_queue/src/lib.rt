@@ -140,7 +140,7 @@ impl InFlightQueue {
     pub fn pop(self, table: &mut [u32; WORDS], messages: &mut [u64; TSNS], tsn: u32) -> Popped
         ensures { λ r. ⌜ after (takenTold (r .answer)) (queueOf (r .queue) (now (table .exit)) (now (messages .exit))) ≡ popped (queueOf self (now (table .entry)) (now (messages .entry))) tsn ⌝ }
     {
-        let left = inflight_take::pop(self.counts(), table, messages, tsn);
+        let left = inflight_pop::pop(self.counts(), table, messages, tsn);
         let answer = left.answer;
         Popped {
             answer,

@@ -1,4 +1,4 @@
--- `inflight_take::pop` meets its contract: an unsound queue is refused, and else the first record and its number go if its TSN is the one asked for.
+-- `inflight_pop::pop` meets its contract: an unsound queue is refused, and else the first record and its number go if its TSN is the one asked for.
 -- Assumes nothing.
 use mathlib.Core.Path.{_≡_, refl, sym, _∙_}
 use mathlib.Core.Bool.{false}
@@ -12,8 +12,8 @@ use Rattle.payload_model.proofs.Laws.{Sound}
 use Rattle.inflight_model.specs.Queue.{Queue, queueOf, unsound, popped}
 use Rattle.inflight_model.proofs.Laws.{asTsns, sound}
 use Rattle.inflight_model.proofs.Calls.{popped-empty, popped-other, popped-small, popped-one}
-use Rattle.inflight_take.proofs.pop.Statement.{statement}
-use Rattle.inflight_take.proofs.pop.Tie as tie
+use Rattle.inflight_pop.proofs.pop.Statement.{statement}
+use Rattle.inflight_pop.proofs.pop.Tie as tie
 
 -- the queue that is lent
 abbrev of : tie.Else1 → Queue
