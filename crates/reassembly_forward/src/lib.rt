@@ -1,59 +1,11 @@
-// Skips: incomplete ordered sets up to an SSN, and loose unordered fragments up to a TSN, dropped.
+// Skips of any queue: incomplete ordered sets up to an SSN, and loose unordered fragments up to a TSN, dropped of a sound one.
 ghost use mathlib.Core.Path.{_≡_};
-ghost use mathlib.Core.Bool.{false};
-ghost use Prim.Native.Nat.{_*_};
-ghost use lib.ListN.{length};
-ghost use Rattle.reassembly_state.specs.Limits.{fragsMost};
-ghost use Rattle.reassembly_state.specs.Model.{skipOrdered, skipUnordered};
 ghost use Rattle.reassembly_state.specs.Answers.{doneTold};
-ghost use Rattle.reassembly_state.specs.State.{stateOf, unsound, view, lay, after, forwardOrdered, forwardUnordered};
+ghost use Rattle.reassembly_state.specs.State.{stateOf, after, forwardOrdered, forwardUnordered};
 use reassembly_state::Counts;
 use reassembly_state::Done;
-use reassembly_state::FRAGMENTS;
 use reassembly_state::Forwarded;
 use reassembly_state::WORDS;
-
-// Of a sound queue drops incomplete sets at or before an SSN, and expects the one after it.
-pub fn skip_ordered(counts: Counts, table: &mut [u32], pool: &mut [u8], last_ssn: u16) -> Counts
-    requires { ⌜ length (now table) ≡ 4 * fragsMost ⌝ }
-    requires { ⌜ unsound (stateOf counts (now table) (now pool)) ≡ false ⌝ }
-    ensures { λ r. ⌜ stateOf r (now (table .exit)) (now (pool .exit)) ≡ lay (skipOrdered (view (stateOf counts (now (table .entry)) (now (pool .entry)))) «last_ssn») (stateOf counts (now (table .entry)) (now (pool .entry))) ⌝ }
-{
-    let mut queue = reassembly_drop::drop_sets(counts, table, pool, last_ssn, false, 0);
-    if serial::sna16lte(queue.next_ssn, last_ssn) {
-        queue.next_ssn = serial::ssn_next(last_ssn);
-    }
-    queue
-}
-
-// Of a sound queue drops loose unordered fragments from the front up to the first one after a TSN.
-pub fn skip_unordered(
-    counts: Counts,
-    table: &mut [u32],
-    pool: &mut [u8],
-    new_cumulative_tsn: u32,
-) -> Counts
-    requires { ⌜ length (now table) ≡ 4 * fragsMost ⌝ }
-    requires { ⌜ unsound (stateOf counts (now table) (now pool)) ≡ false ⌝ }
-    ensures { λ r. ⌜ stateOf r (now (table .exit)) (now (pool .exit)) ≡ lay (skipUnordered (view (stateOf counts (now (table .entry)) (now (pool .entry)))) «new_cumulative_tsn») (stateOf counts (now (table .entry)) (now (pool .entry))) ⌝ }
-{
-    let count = counts.finished + (counts.unordered + counts.ordered);
-    let at = counts.finished;
-    let k = loose_fragments::find_after(table, FRAGMENTS, at, counts.unordered, new_cumulative_tsn);
-    let bytes = fragment_close::remove_fragments(
-        table,
-        FRAGMENTS,
-        count,
-        pool,
-        counts.n_bytes,
-        at,
-        k,
-    );
-    let mut queue = counts;
-    queue.unordered = queue.unordered - k;
-    queue.n_bytes = queue.n_bytes - bytes;
-    queue
-}
 
 // Drops incomplete sets at or before an SSN, and expects the one after it.
 pub fn forward_tsn_for_ordered(
@@ -72,7 +24,7 @@ pub fn forward_tsn_for_ordered(
     }
     Forwarded {
         answer: Done::All,
-        queue: skip_ordered(counts, table, pool, last_ssn),
+        queue: reassembly_skips::skip_ordered(counts, table, pool, last_ssn),
     }
 }
 
@@ -93,6 +45,6 @@ pub fn forward_tsn_for_unordered(
     }
     Forwarded {
         answer: Done::All,
-        queue: skip_unordered(counts, table, pool, new_cumulative_tsn),
+        queue: reassembly_skips::skip_unordered(counts, table, pool, new_cumulative_tsn),
     }
 }

@@ -3,8 +3,9 @@ ghost use mathlib.Core.Path.{_≡_};
 ghost use Prim.Native.Nat.{_<_};
 ghost use lib.ListN.{getD, set};
 ghost use Rattle.streams_model.specs.Limits.{streamsMost};
-ghost use Rattle.streams_model.specs.Shape.{queuesOf, noCounts, fresh, freshStreams};
+ghost use Rattle.streams_model.specs.Shape.{queuesOf, noCounts, freshStreams};
 use chunks::Flag;
+use reassembly_fresh::fresh;
 use reassembly_state::Counts;
 use reassembly_state::Done;
 use reassembly_state::Took;
@@ -49,35 +50,20 @@ pub struct Forwarded {
     pub streams: Streams,
 }
 
-// The counts of a fresh queue of a stream.
-fn counts_of(si: u16, max_message_size: u32) -> Counts
-    ensures { λ r. ⌜ r ≡ fresh si «max_message_size» ⌝ }
-{
-    Counts {
-        si,
-        next_ssn: 0,
-        max_message_size,
-        finished: 0,
-        unordered: 0,
-        ordered: 0,
-        n_bytes: 0,
-    }
-}
-
 impl Streams {
     // Eight fresh queues, of the streams 0 to 7; the table and the pool lent to them may hold anything.
     pub fn new(max_message_size: u32) -> Self
         ensures { λ r. ⌜ r ≡ freshStreams «max_message_size» ⌝ }
     {
         Streams {
-            s0: counts_of(0, max_message_size),
-            s1: counts_of(1, max_message_size),
-            s2: counts_of(2, max_message_size),
-            s3: counts_of(3, max_message_size),
-            s4: counts_of(4, max_message_size),
-            s5: counts_of(5, max_message_size),
-            s6: counts_of(6, max_message_size),
-            s7: counts_of(7, max_message_size),
+            s0: fresh(0, max_message_size),
+            s1: fresh(1, max_message_size),
+            s2: fresh(2, max_message_size),
+            s3: fresh(3, max_message_size),
+            s4: fresh(4, max_message_size),
+            s5: fresh(5, max_message_size),
+            s6: fresh(6, max_message_size),
+            s7: fresh(7, max_message_size),
         }
     }
 

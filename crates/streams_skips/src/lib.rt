@@ -25,7 +25,7 @@ pub fn skip_ordered(
     ensures { λ r. ⌜ stateOf r (now (table .exit)) (now (pool .exit)) ≡ withOwn (stateOf streams (now (table .entry)) (now (pool .entry))) stream (skipOrdered (own (stateOf streams (now (table .entry)) (now (pool .entry))) stream) «last_ssn») ⌝ }
 {
     let place = streams_parts::among_front(streams, stream);
-    let left = reassembly_forward::skip_ordered(place.queue, table, pool, last_ssn);
+    let left = reassembly_skips::skip_ordered(place.queue, table, pool, last_ssn);
     streams_close::close_up(table, pool, place.queue, left, place.behind);
     let none = Sum { rows: 0, bytes: 0 };
     streams_parts::put_back(streams, stream, left, place.before, none)
@@ -73,6 +73,6 @@ pub fn skip_unordered(
     ensures { λ r. ⌜ stateOf r (now (table .exit)) (now (pool .exit)) ≡ withOwn (stateOf streams (now (table .entry)) (now (pool .entry))) stream (skipUnordered (own (stateOf streams (now (table .entry)) (now (pool .entry))) stream) «new_cumulative_tsn») ⌝ }
 {
     let place = streams_parts::among_all(streams, stream);
-    let left = reassembly_forward::skip_unordered(place.queue, table, pool, new_cumulative_tsn);
+    let left = reassembly_skips::skip_unordered(place.queue, table, pool, new_cumulative_tsn);
     streams_parts::put_back(streams, stream, left, place.before, place.behind)
 }

@@ -7,14 +7,14 @@ use Rattle.streams_model.proofs.Streams.new.Tie as tie
 returns : tie.Need-returns
 returns c =
     rw (
-      c .before .before .before .before .before .before .before .counts-of .ensures,
-      c .before .before .before .before .before .before .counts-of2 .ensures,
-      c .before .before .before .before .before .counts-of3 .ensures,
-      c .before .before .before .before .counts-of4 .ensures,
-      c .before .before .before .counts-of5 .ensures,
-      c .before .before .counts-of6 .ensures,
-      c .before .counts-of7 .ensures,
-      c .counts-of8 .ensures,
+      c .before .before .before .before .before .before .before .fresh .ensures,
+      c .before .before .before .before .before .before .fresh2 .ensures,
+      c .before .before .before .before .before .fresh3 .ensures,
+      c .before .before .before .before .fresh4 .ensures,
+      c .before .before .before .fresh5 .ensures,
+      c .before .before .fresh6 .ensures,
+      c .before .fresh7 .ensures,
+      c .fresh8 .ensures,
     )
 
 pub new-spec : {M : Type 1} → statement M

@@ -1,4 +1,4 @@
--- `reassembly_forward::skip_unordered` meets its contract: the loose fragments ahead of the first one after the TSN are taken out.
+-- `reassembly_skips::skip_unordered` meets its contract: the loose fragments ahead of the first one after the TSN are taken out.
 -- Assumes nothing.
 use mathlib.Core.Path.{_≡_}
 use Prim.Native.Nat.{_≤_}
@@ -9,9 +9,9 @@ use Rattle.table.proofs.Columns.{rows-long}
 use Rattle.reassembly_state.specs.Limits.{fragsMost}
 use Rattle.reassembly_state.specs.State.{State, stateOf}
 use Rattle.reassembly_state.proofs.Laws.{Sound, sound}
-use Rattle.reassembly_forward.proofs.Passed.{passed-few, freed-bytes, passed-laid}
-use Rattle.reassembly_forward.proofs.skip_unordered.Statement.{statement}
-use Rattle.reassembly_forward.proofs.skip_unordered.Tie as tie
+use Rattle.reassembly_skips.proofs.Passed.{passed-few, freed-bytes, passed-laid}
+use Rattle.reassembly_skips.proofs.skip_unordered.Statement.{statement}
+use Rattle.reassembly_skips.proofs.skip_unordered.Tie as tie
 
 -- the queue that is lent
 abbrev of : tie.Start → State

@@ -1,10 +1,10 @@
--- `reassembly_forward::skip_ordered` meets its contract: incomplete sets go, and then the expected SSN moves on where it is at or before the last.
+-- `reassembly_skips::skip_ordered` meets its contract: incomplete sets go, and then the expected SSN moves on where it is at or before the last.
 -- Assumes nothing.
 use mathlib.Core.Path.{sym, _∙_}
 use borrow.Author.Needs.{needs}
 use Rattle.reassembly_drop.proofs.Expected.{unbounded, moved-on, stayed}
-use Rattle.reassembly_forward.proofs.skip_ordered.Statement.{statement}
-use Rattle.reassembly_forward.proofs.skip_ordered.Tie as tie
+use Rattle.reassembly_skips.proofs.skip_ordered.Statement.{statement}
+use Rattle.reassembly_skips.proofs.skip_ordered.Tie as tie
 
 moves : tie.Need-returns
 moves c =
