@@ -1,3 +1,1 @@
-pub mod Sets
-pub mod Lowest
 pub mod Seen

@@ -10,7 +10,6 @@ ghost use Rattle.set_reach.specs.Applicable.{foundIn, applies, applicable};
 ghost use Rattle.reassembly_applicable.specs.Answers.{applicableTold};
 
 mod part;
-mod whole;
 
 use reassembly_state::Counts;
 use reassembly_state::WORDS;
@@ -42,10 +41,10 @@ pub fn applies(
     }
     let from = counts.finished + counts.unordered;
     let n = counts.ordered;
-    if whole::is_settled(table, from, n, expected, last_ssn, new_cumulative_tsn) {
+    if bounded_sets::is_settled(table, from, n, expected, last_ssn, new_cumulative_tsn) {
         return Applicable::Ssn(last_ssn);
     }
-    if whole::is_resolved(table, from, n, last_ssn, peer_last_tsn) {
+    if bounded_sets::is_resolved(table, from, n, last_ssn, peer_last_tsn) {
         return Applicable::Ssn(last_ssn);
     }
     part::highest_part(

@@ -1,7 +1,7 @@
 // How much of a skip applies where not all of it does.
 ghost use mathlib.Core.Path.{_≡_};
 ghost use mathlib.Core.List.{map};
-ghost use Prim.Native.Nat.{_+_, _*_, _≤_, _<_};
+ghost use Prim.Native.Nat.{_+_, _*_, _≤_};
 ghost use lib.ListN.{length, take, drop};
 ghost use Rattle.wire.specs.Refusal.{none, says};
 ghost use Rattle.table.specs.Rows.{rowsOf};
@@ -13,35 +13,6 @@ ghost use Rattle.set_reach.specs.Applicable.{endsPart, foundIn};
 ghost use Rattle.reassembly_applicable.specs.Answers.{applicableTold};
 use crate::Applicable;
 use reassembly_state::FRAGMENTS;
-
-// Whether the set of k rows at an index may end a part: from the expected SSN on, before the last, and reached by the point or begun by the peer's last TSN.
-fn ends_part(
-    table: &[u32],
-    at: usize,
-    k: usize,
-    expected: u16,
-    last_ssn: u16,
-    tsn: u32,
-    peer_last_tsn: u32,
-) -> bool
-    requires { ⌜ length (now table) ≡ 4 * fragsMost ⌝ }
-    requires { ⌜ at + k ≤ fragsMost ⌝ }
-    requires { ⌜ 0 < k ⌝ }
-    ensures { λ r. ⌜ r ≡ endsPart expected «last_ssn» tsn «peer_last_tsn» (map bare (take k (drop at (rowsOf fragsMost (now (table .entry)))))) ⌝ }
-{
-    let first = table::row_at(table, FRAGMENTS, at);
-    let ssn = (first.id % 65536) as u16;
-    if !serial::sna16lte(expected, ssn) {
-        return false;
-    }
-    if !serial::sna16lt(ssn, last_ssn) {
-        return false;
-    }
-    if set_reach::is_reached(table, FRAGMENTS, at, k, tsn) {
-        return true;
-    }
-    serial::sna32lte(first.tsn, peer_last_tsn)
-}
 
 // The highest SSN of the sets that may end a part.
 pub fn highest_part(
@@ -64,7 +35,7 @@ pub fn highest_part(
         let at = from + i;
         let k = set_reach::set_at(table, FRAGMENTS, at, n - i);
         i += k;
-        if ends_part(table, at, k, expected, last_ssn, tsn, peer_last_tsn) {
+        if bounded_sets::ends_part(table, at, k, expected, last_ssn, tsn, peer_last_tsn) {
             let first = table::row_at(table, FRAGMENTS, at);
             highest = kept_ssn::higher(found, highest, (first.id % 65536) as u16);
             found = true;

@@ -1,15 +1,14 @@
 -- A bounded skip, apart from the code: what limits the expected SSN is seen in the rows, and where it moves to.
 -- Assumes nothing.
 use mathlib.Core.Path.{_≡_, refl, sym, ap, _∙_}
-use mathlib.Core.Bool.{Bool, true, false, cond}
+use mathlib.Core.Bool.{true, false}
 use mathlib.Core.List.{List, map}
-use mathlib.Core.Option.{none, some, Option·getD}
+use mathlib.Core.Option.{Option·getD}
 use Prim.Native.Nat.{ℕ}
 use lib.ListN.{length}
 use Rattle.serial.specs.Serial.{next, before}
-use Rattle.fragments.specs.Frag.{Frag, bare}
-use Rattle.fragment_sets.specs.Sets.{sets}
-use Rattle.set_reach.specs.Kept.{ssnsOf, lowest, stays}
+use Rattle.fragments.specs.Frag.{bare}
+use Rattle.set_reach.specs.Kept.{lowest, stays}
 use Rattle.set_reach.proofs.Blind.{Blind, blind-cut, up-to-blind, reached-blind, ssns-blind}
 use Rattle.reassembly_state.specs.Limits.{fragsMost}
 use Rattle.reassembly_state.specs.Model.{withOrdered}
@@ -30,16 +29,6 @@ limit-blind s t l = ap (λ (ns : List ℕ). Option·getD (lowest 16 ns) (next 16
 
 pub limit-seen : (s : State) → Sound s → length (s .rows) ≡ fragsMost → (last t : ℕ) → limit last t (map bare (orderedRows s)) ≡ limit last t (view s .ordered)
 limit-seen s k full last t = sym (ap (limit last t) (ordered-cut s (k .few) full) ∙ blind-cut (limit-blind last t) (orderedRows s) _)
-
--- the lowest SSN where a set holds back, else the one after the last
-module _ (last t : ℕ) (l : List Frag) (found : Bool) (b : ℕ) (e : cond found (some b) none ≡ lowest 16 (ssnsOf (heldBack last t) (sets l))) where
-  pub limit-found : found ≡ true → b ≡ limit last t l
-  unfolding limit
-  limit-found f = rw (← e, f)
-
-  pub limit-free : found ≡ false → {n : ℕ} → n ≡ next 16 last → n ≡ limit last t l
-  unfolding limit
-  limit-free f x = x ∙ rw (← e, f)
 
 -- ── the expected SSN ──
 

@@ -1,4 +1,4 @@
--- `reassembly_bounded::limit` meets its contract: of the SSNs of the sets passed that hold back the lowest is kept.
+-- `bounded_sets::limit` meets its contract: of the SSNs of the sets passed that hold back the lowest is kept.
 -- Assumes nothing.
 use mathlib.Core.Path.{sym, _∙_}
 use Prim.Native.Nat.{_+_, _-_, _≤_, _<_}
@@ -9,9 +9,9 @@ use Rattle.set_reach.proofs.Passing.{set-fits}
 use Rattle.set_reach.proofs.Keeping.{Keeping, keeping-none, keeping-past, keeping-one, keeping-all}
 use Rattle.reassembly_state.specs.Limits.{fragsMost}
 use Rattle.set_reach.specs.Bounded.{heldBack}
-use Rattle.reassembly_bounded.proofs.Bounded.{limit-found, limit-free}
-use Rattle.reassembly_bounded.proofs.limit.Statement.{statement}
-use Rattle.reassembly_bounded.proofs.limit.Tie as tie
+use Rattle.bounded_sets.proofs.Back.{limit-found, limit-free}
+use Rattle.bounded_sets.proofs.limit.Statement.{statement}
+use Rattle.bounded_sets.proofs.limit.Tie as tie
 
 abbrev Inv : tie.InvT-loop
 Inv table from n last-ssn tsn found₀ lowest₀ i₀ found lowest i = Keeping (lower 16) (heldBack last-ssn tsn) fragsMost table from n i found lowest

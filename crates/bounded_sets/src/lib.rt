@@ -1,4 +1,4 @@
-// Whether all of a skip applies, by the sets that are held: `from` and n are those of the ordered rows.
+// Passes over the ordered rows that a skip held over a stream reset asks for: `from` and n are those of the ordered rows.
 ghost use mathlib.Core.Path.{_≡_};
 ghost use mathlib.Core.Bool.{cond};
 ghost use mathlib.Core.List.{map};
@@ -10,8 +10,48 @@ ghost use Rattle.fragments.specs.Frag.{bare};
 ghost use Rattle.fragment_sets.specs.Sets.{sets};
 ghost use Rattle.set_reach.specs.Kept.{someSet};
 ghost use Rattle.reassembly_state.specs.Limits.{fragsMost};
-ghost use Rattle.set_reach.specs.Applicable.{settles, resolved};
+ghost use Rattle.set_reach.specs.Bounded.{heldBack, limit};
+ghost use Rattle.set_reach.specs.Applicable.{settles, resolved, endsPart};
 use reassembly_state::FRAGMENTS;
+
+// Whether the set of k rows at an index is at or before an SSN, and a cumulative point does not reach it.
+fn holds_back(table: &[u32], at: usize, k: usize, last_ssn: u16, tsn: u32) -> bool
+    requires { ⌜ length (now table) ≡ 4 * fragsMost ⌝ }
+    requires { ⌜ at + k ≤ fragsMost ⌝ }
+    requires { ⌜ 0 < k ⌝ }
+    ensures { λ r. ⌜ r ≡ heldBack «last_ssn» tsn (map bare (take k (drop at (rowsOf fragsMost (now (table .entry)))))) ⌝ }
+{
+    let first = table::row_at(table, FRAGMENTS, at);
+    if !serial::sna16lte((first.id % 65536) as u16, last_ssn) {
+        return false;
+    }
+    !set_reach::is_reached(table, FRAGMENTS, at, k, tsn)
+}
+
+// How far the expected SSN may move: to the lowest SSN of the sets that hold it back, else to the one after the last.
+pub fn limit(table: &[u32], from: usize, n: usize, last_ssn: u16, tsn: u32) -> u16
+    requires { ⌜ length (now table) ≡ 4 * fragsMost ⌝ }
+    requires { ⌜ from + n ≤ fragsMost ⌝ }
+    ensures { λ r. ⌜ r ≡ limit «last_ssn» tsn (map bare (take n (drop from (rowsOf fragsMost (now (table .entry)))))) ⌝ }
+{
+    let mut found = false;
+    let mut lowest: u16 = 0;
+    let mut i: usize = 0;
+    while i < n {
+        let at = from + i;
+        let k = set_reach::set_at(table, FRAGMENTS, at, n - i);
+        i += k;
+        if holds_back(table, at, k, last_ssn, tsn) {
+            let first = table::row_at(table, FRAGMENTS, at);
+            lowest = kept_ssn::lower(found, lowest, (first.id % 65536) as u16);
+            found = true;
+        }
+    }
+    if found {
+        return lowest;
+    }
+    serial::ssn_next(last_ssn)
+}
 
 // Whether the set of k rows at an index is that of the last SSN, and is the expected one or reached by the point.
 fn settles(table: &[u32], at: usize, k: usize, expected: u16, last_ssn: u16, tsn: u32) -> bool
@@ -90,4 +130,33 @@ pub fn is_resolved(table: &[u32], from: usize, n: usize, last_ssn: u16, peer_las
         return false;
     }
     serial::sna32lte(lowest, peer_last_tsn)
+}
+
+// Whether the set of k rows at an index may end a part: from the expected SSN on, before the last, and reached by the point or begun by the peer's last TSN.
+pub fn ends_part(
+    table: &[u32],
+    at: usize,
+    k: usize,
+    expected: u16,
+    last_ssn: u16,
+    tsn: u32,
+    peer_last_tsn: u32,
+) -> bool
+    requires { ⌜ length (now table) ≡ 4 * fragsMost ⌝ }
+    requires { ⌜ at + k ≤ fragsMost ⌝ }
+    requires { ⌜ 0 < k ⌝ }
+    ensures { λ r. ⌜ r ≡ endsPart expected «last_ssn» tsn «peer_last_tsn» (map bare (take k (drop at (rowsOf fragsMost (now (table .entry)))))) ⌝ }
+{
+    let first = table::row_at(table, FRAGMENTS, at);
+    let ssn = (first.id % 65536) as u16;
+    if !serial::sna16lte(expected, ssn) {
+        return false;
+    }
+    if !serial::sna16lt(ssn, last_ssn) {
+        return false;
+    }
+    if set_reach::is_reached(table, FRAGMENTS, at, k, tsn) {
+        return true;
+    }
+    serial::sna32lte(first.tsn, peer_last_tsn)
 }

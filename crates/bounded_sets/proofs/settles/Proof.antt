@@ -1,4 +1,4 @@
--- `reassembly_applicable::whole::settles` meets its contract: its tests are those of the promise, in their order.
+-- `bounded_sets::settles` meets its contract: its tests are those of the promise, in their order.
 -- Assumes nothing.
 use Prim.Native.Nat.{_+_, _≤_}
 use native.Mathlib.Omega.{arith}
@@ -7,9 +7,9 @@ use lib.ListN.{length}
 use Rattle.table.specs.Rows.{rowsOf}
 use Rattle.table.proofs.Columns.{rows-long}
 use Rattle.reassembly_state.specs.Limits.{fragsMost}
-use Rattle.reassembly_applicable.proofs.Sets.{settles-other, settles-expected, settles-reached}
-use Rattle.reassembly_applicable.proofs.whole.settles.Statement.{statement}
-use Rattle.reassembly_applicable.proofs.whole.settles.Tie as tie
+use Rattle.bounded_sets.proofs.Sets.{settles-other, settles-expected, settles-reached}
+use Rattle.bounded_sets.proofs.settles.Statement.{statement}
+use Rattle.bounded_sets.proofs.settles.Tie as tie
 
 fits : (s : tie.Start) → s .args .at + s .args .k ≤ length (rowsOf fragsMost (s .args .table .now))
 fits s = omega (arith, rows-long fragsMost (s .args .table .now) (s .pre .0))

@@ -1,4 +1,4 @@
--- `reassembly_bounded::holds_back` meets its contract: its tests are the two of the promise, in their order.
+-- `bounded_sets::holds_back` meets its contract: its tests are the two of the promise, in their order.
 -- Assumes nothing.
 use mathlib.Core.Path.{_≡_, sym, ap, _∙_}
 use mathlib.Core.Bool.{not}
@@ -13,8 +13,8 @@ use Rattle.fragments.specs.Frag.{bare}
 use Rattle.fragment_sets.specs.Sets.{setUpTo}
 use Rattle.set_reach.proofs.Passing.{first-up-to}
 use Rattle.reassembly_state.specs.Limits.{fragsMost}
-use Rattle.reassembly_bounded.proofs.holds_back.Statement.{statement}
-use Rattle.reassembly_bounded.proofs.holds_back.Tie as tie
+use Rattle.bounded_sets.proofs.holds_back.Statement.{statement}
+use Rattle.bounded_sets.proofs.holds_back.Tie as tie
 
 -- the SSN of the first row is that of the set
 up-to : (t : tie.After-sna16lte) → let s = t .before .before .before .before in setUpTo (s .args .last-ssn) (map bare (take (s .args .k) (drop (s .args .at) (rowsOf fragsMost (s .args .table .now))))) ≡ t .sna16lte .result

@@ -1,4 +1,4 @@
--- `reassembly_applicable::whole::is_settled` meets its contract: where no set passed does, those from the row at i on decide.
+-- `bounded_sets::is_settled` meets its contract: where no set passed does, those from the row at i on decide.
 -- Assumes nothing.
 use mathlib.Core.Path.{sym, _∙_}
 use Prim.Native.Nat.{_+_, _-_, _≤_, _<_}
@@ -8,8 +8,8 @@ use Rattle.set_reach.proofs.Passing.{set-fits}
 use Rattle.set_reach.proofs.Keeping.{Looking, looking-none, looking-past, looking-found, looking-all}
 use Rattle.reassembly_state.specs.Limits.{fragsMost}
 use Rattle.set_reach.specs.Applicable.{settles}
-use Rattle.reassembly_applicable.proofs.whole.is_settled.Statement.{statement}
-use Rattle.reassembly_applicable.proofs.whole.is_settled.Tie as tie
+use Rattle.bounded_sets.proofs.is_settled.Statement.{statement}
+use Rattle.bounded_sets.proofs.is_settled.Tie as tie
 
 abbrev Inv : tie.InvT-loop
 Inv table from n expected last-ssn tsn i₀ i = Looking (settles expected last-ssn tsn) fragsMost table from n i

@@ -1,10 +1,10 @@
--- `reassembly_applicable::whole::lower` meets its contract: its tests are those of the promise.
+-- `bounded_sets::lower` meets its contract: its tests are those of the promise.
 -- Assumes nothing.
 use mathlib.Core.Path.{sym, _∙_}
 use borrow.Author.Needs.{needs}
 use borrow.Author.Tests.{not-true, not-false}
-use Rattle.reassembly_applicable.proofs.whole.lower.Statement.{statement}
-use Rattle.reassembly_applicable.proofs.whole.lower.Tie as tie
+use Rattle.bounded_sets.proofs.lower.Statement.{statement}
+use Rattle.bounded_sets.proofs.lower.Tie as tie
 
 first : tie.Need-returns
 first c = let a = c .before .args in rw (not-true (a .found) (c .if1 .taken))

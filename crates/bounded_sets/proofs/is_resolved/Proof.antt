@@ -1,13 +1,13 @@
--- `reassembly_applicable::whole::is_resolved` meets its contract: of the TSNs of the rows passed that count the lowest is kept.
+-- `bounded_sets::is_resolved` meets its contract: of the TSNs of the rows passed that count the lowest is kept.
 -- Assumes nothing.
 use mathlib.Core.Path.{sym, _∙_}
 use Prim.Native.Nat.{_-_}
 use native.Mathlib.Omega.{arith}
 use borrow.Author.Tests.{not-true, not-false}
 use Rattle.reassembly_state.specs.Limits.{fragsMost}
-use Rattle.reassembly_applicable.proofs.Lowest.{Lowest, lowest-none, lowest-past, lowest-one, lowest-none-found, lowest-found}
-use Rattle.reassembly_applicable.proofs.whole.is_resolved.Statement.{statement}
-use Rattle.reassembly_applicable.proofs.whole.is_resolved.Tie as tie
+use Rattle.bounded_sets.proofs.Lowest.{Lowest, lowest-none, lowest-past, lowest-one, lowest-none-found, lowest-found}
+use Rattle.bounded_sets.proofs.is_resolved.Statement.{statement}
+use Rattle.bounded_sets.proofs.is_resolved.Tie as tie
 
 abbrev Inv : tie.InvT-loop
 Inv table from n last-ssn peer-last-tsn found₀ lowest₀ i₀ found lowest i = Lowest last-ssn fragsMost table from n i found lowest

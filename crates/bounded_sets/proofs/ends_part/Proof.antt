@@ -1,4 +1,4 @@
--- `reassembly_applicable::part::ends_part` meets its contract: its tests are those of the promise, in their order.
+-- `bounded_sets::ends_part` meets its contract: its tests are those of the promise, in their order.
 -- Assumes nothing.
 use mathlib.Core.Path.{sym, _∙_}
 use Prim.Native.Nat.{_+_, _≤_}
@@ -9,9 +9,9 @@ use lib.ListN.{length}
 use Rattle.table.specs.Rows.{rowsOf}
 use Rattle.table.proofs.Columns.{rows-long}
 use Rattle.reassembly_state.specs.Limits.{fragsMost}
-use Rattle.reassembly_applicable.proofs.Sets.{ends-before, ends-late, ends-reached, ends-begun}
-use Rattle.reassembly_applicable.proofs.part.ends_part.Statement.{statement}
-use Rattle.reassembly_applicable.proofs.part.ends_part.Tie as tie
+use Rattle.bounded_sets.proofs.Sets.{ends-before, ends-late, ends-reached, ends-begun}
+use Rattle.bounded_sets.proofs.ends_part.Statement.{statement}
+use Rattle.bounded_sets.proofs.ends_part.Tie as tie
 
 fits : (s : tie.Start) → s .args .at + s .args .k ≤ length (rowsOf fragsMost (s .args .table .now))
 fits s = omega (arith, rows-long fragsMost (s .args .table .now) (s .pre .0))
