@@ -39,7 +39,7 @@ pub fn take(queue: Counts, table: &mut [u32], pool: &mut [u8], buffer: &mut [u8]
     let held = queue.finished + (queue.unordered + queue.ordered);
     let bytes = queue.n_bytes;
     let ordered = queue.finished == 0;
-    let hand = reassembly_message::take_run(
+    let hand = reassembly_hand::take_run(
         table,
         pool,
         buffer,

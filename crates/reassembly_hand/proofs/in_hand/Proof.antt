@@ -1,8 +1,8 @@
--- `reassembly_message::in_hand` meets its contract: only an ordered message has its SSN.
+-- `reassembly_hand::in_hand` meets its contract: only an ordered message has its SSN.
 -- Assumes nothing.
 use Rattle.reassembly_state.specs.Answers.{messageHeld}
-use Rattle.reassembly_message.proofs.in_hand.Statement.{statement}
-use Rattle.reassembly_message.proofs.in_hand.Tie as tie
+use Rattle.reassembly_hand.proofs.in_hand.Statement.{statement}
+use Rattle.reassembly_hand.proofs.in_hand.Tie as tie
 
 numbered : tie.Need-returns
 unfolding messageHeld

@@ -1,4 +1,4 @@
--- `reassembly_message::take_run` meets its contract: the bytes of the run are those of its fragments, and its first row says what the message says.
+-- `reassembly_hand::take_run` meets its contract: the bytes of the run are those of its fragments, and its first row says what the message says.
 -- Assumes nothing.
 use mathlib.Core.Path.{_≡_}
 use mathlib.Core.List.{List}
@@ -14,8 +14,8 @@ use Rattle.table.proofs.Columns.{rows-long}
 use Rattle.fragments.proofs.Pool.{B}
 use Rattle.reassembly_state.specs.Limits.{fragsMost}
 use Rattle.reassembly_turn.proofs.Messages.{run-end, run-message, run-out}
-use Rattle.reassembly_message.proofs.take_run.Statement.{statement}
-use Rattle.reassembly_message.proofs.take_run.Tie as tie
+use Rattle.reassembly_hand.proofs.take_run.Statement.{statement}
+use Rattle.reassembly_hand.proofs.take_run.Tie as tie
 
 abbrev rows : tie.Start → List Row
 rows s = rowsOf fragsMost (s .args .table .now)
