@@ -1,13 +1,12 @@
 // A message taken out from among the held fragments, where the lent buffer has room for it.
 ghost use mathlib.Core.Path.{_≡_};
-ghost use mathlib.Core.Bool.{false};
 ghost use Prim.Native.Nat.{_+_, _*_, _≤_, _<_};
-ghost use lib.ListN.{length, take, drop};
+ghost use lib.ListN.{length, take};
 ghost use Rattle.table.specs.Rows.{rowsOf, total};
 ghost use Rattle.fragments.specs.Frag.{longLength};
 ghost use Rattle.fragments.specs.Pool.{cut};
 ghost use Rattle.reassembly_state.specs.Limits.{fragsMost};
-ghost use Rattle.reassembly_state.specs.Rows.{oldest, out, takenOut};
+ghost use Rattle.reassembly_state.specs.Rows.{out, takenOut};
 ghost use Rattle.reassembly_state.specs.Answers.{tookTold};
 use reassembly_state::FRAGMENTS;
 use reassembly_state::Took;
@@ -66,28 +65,4 @@ pub fn take_among(
         k,
         size,
     }
-}
-
-// Takes the oldest of the finished messages at index from.
-pub fn take_finished(
-    table: &mut [u32],
-    pool: &mut [u8],
-    buffer: &mut [u8],
-    held: usize,
-    bytes: usize,
-    from: usize,
-    finished: usize,
-    off: usize,
-) -> Among
-    requires { ⌜ length (now table) ≡ 4 * fragsMost ⌝ }
-    requires { ⌜ held ≤ fragsMost ⌝ }
-    requires { ⌜ from + finished ≤ held ⌝ }
-    requires { ⌜ 0 < finished ⌝ }
-    requires { ⌜ total longLength (take held (rowsOf fragsMost (now table))) ≡ bytes ⌝ }
-    requires { ⌜ bytes ≤ length (now pool) ⌝ }
-    requires { ⌜ off ≡ total longLength (take from (rowsOf fragsMost (now table))) ⌝ }
-    ensures { λ r. ⌜ out (tookTold (r .answer)) (r .k) (r .size) (rowsOf fragsMost (now (table .exit))) (now (pool .exit)) (now (buffer .exit)) ≡ takenOut false from (oldest (take finished (drop from (cut (take held (rowsOf fragsMost (now (table .entry)))) (now (pool .entry)))))) (cut (take held (rowsOf fragsMost (now (table .entry)))) (now (pool .entry))) (rowsOf fragsMost (now (table .entry))) (now (pool .entry)) (now (buffer .entry)) ⌝ }
-{
-    let k = reassembly_turn::oldest_finished(table, from, finished);
-    take_among(table, pool, buffer, held, bytes, from, k, off, false)
 }
