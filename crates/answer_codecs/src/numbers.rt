@@ -43,10 +43,10 @@ fn sna32(call: &[u8]) -> Order {
     let a = operands::u32_at(call, 1);
     let b = operands::u32_at(call, 5);
     Order {
-        lt: serial::sna32lt(a, b),
-        lte: serial::sna32lte(a, b),
-        gt: serial::sna32gt(a, b),
-        gte: serial::sna32gte(a, b),
+        lt: serial_tsns::sna32lt(a, b),
+        lte: serial_tsns::sna32lte(a, b),
+        gt: serial_tsns::sna32gt(a, b),
+        gte: serial_tsns::sna32gte(a, b),
     }
 }
 
@@ -54,36 +54,36 @@ fn sna16(call: &[u8]) -> Order {
     let a = operands::u16_at(call, 1);
     let b = operands::u16_at(call, 3);
     Order {
-        lt: serial::sna16lt(a, b),
-        lte: serial::sna16lte(a, b),
-        gt: serial::sna16gt(a, b),
-        gte: serial::sna16gte(a, b),
+        lt: serial_ssns::sna16lt(a, b),
+        lte: serial_ssns::sna16lte(a, b),
+        gt: serial_ssns::sna16gt(a, b),
+        gte: serial_ssns::sna16gte(a, b),
     }
 }
 
 fn tsn_distance(call: &[u8]) -> i64 {
-    serial::tsn_distance(operands::u32_at(call, 1), operands::u32_at(call, 5))
+    serial_distance::tsn_distance(operands::u32_at(call, 1), operands::u32_at(call, 5))
 }
 
 fn ssn_distance(call: &[u8]) -> i64 {
-    let d = serial::ssn_distance(operands::u16_at(call, 1), operands::u16_at(call, 3));
+    let d = serial_distance::ssn_distance(operands::u16_at(call, 1), operands::u16_at(call, 3));
     out::longer(d)
 }
 
 // The word of how a number stands to another.
-fn compared(order: serial::Order, out: &mut [u8; SPACE], at: usize) -> usize {
+fn compared(order: serial_model::Order, out: &mut [u8; SPACE], at: usize) -> usize {
     match order {
-        serial::Order::Earlier => out::text(out, at, b"earlier"),
-        serial::Order::Same => out::text(out, at, b"same"),
-        serial::Order::Later => out::text(out, at, b"later"),
-        serial::Order::Opposite => out::text(out, at, b"opposite"),
+        serial_model::Order::Earlier => out::text(out, at, b"earlier"),
+        serial_model::Order::Same => out::text(out, at, b"same"),
+        serial_model::Order::Later => out::text(out, at, b"later"),
+        serial_model::Order::Opposite => out::text(out, at, b"opposite"),
     }
 }
 
-fn tsn_compare(call: &[u8]) -> serial::Order {
-    serial::tsn_compare(operands::u32_at(call, 1), operands::u32_at(call, 5))
+fn tsn_compare(call: &[u8]) -> serial_model::Order {
+    serial_compare::tsn_compare(operands::u32_at(call, 1), operands::u32_at(call, 5))
 }
 
-fn ssn_compare(call: &[u8]) -> serial::Order {
-    serial::ssn_compare(operands::u16_at(call, 1), operands::u16_at(call, 3))
+fn ssn_compare(call: &[u8]) -> serial_model::Order {
+    serial_compare::ssn_compare(operands::u16_at(call, 1), operands::u16_at(call, 3))
 }

@@ -12,7 +12,7 @@ use lib.Seq.{take-at}
 use Rattle.wire.specs.BigEndian.{over}
 use Rattle.wire.specs.Facts.{over-length}
 use Rattle.wire.specs.Refusal.{none, refuse, says}
-use Rattle.serial.specs.Serial.{before}
+use Rattle.serial_model.specs.Serial.{before}
 use Rattle.table.proofs.Columns.{rows-long}
 use Rattle.fragments.specs.Frag.{Frag, ssnOf, hasTsn, rowOf}
 use Rattle.fragments.specs.Words.{size, joined, any}

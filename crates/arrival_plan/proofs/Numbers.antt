@@ -8,8 +8,8 @@ use native.Mathlib.Decide.{decLt}
 use native.Mathlib.Omega.{arith}
 use lib.Dec.{ltb, eqb}
 use borrow.Author.Tests.{lt-ltb, le-ltb, eq-eqb, ne-eqb}
-use Rattle.serial.specs.Serial.{next, ahead, before}
-use Rattle.serial.specs.Facts.{arc}
+use Rattle.serial_model.specs.Serial.{next, ahead, before}
+use Rattle.serial_model.specs.Facts.{arc}
 use Rattle.loose_fragments.specs.Loose.{previous}
 use Rattle.arrival_plan.specs.Plan.{tsnAt}
 

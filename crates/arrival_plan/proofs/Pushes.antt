@@ -10,7 +10,7 @@ use lib.ListN.{length}
 use lib.Seq.{take-at, drop-at, take-append-add, drop-append-add}
 use borrow.Author.Tests.{lt-ltb, eq-eqb}
 use Rattle.wire.specs.Refusal.{none, says}
-use Rattle.serial.specs.Serial.{before}
+use Rattle.serial_model.specs.Serial.{before}
 use Rattle.moves.specs.Lists.{slice, gone}
 use Rattle.fragments.specs.Frag.{Frag, ssnOf, hasTsn, tsnBefore}
 use Rattle.fragments.specs.Words.{size, any, placed}

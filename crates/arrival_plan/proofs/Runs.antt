@@ -8,7 +8,7 @@ use Prim.Native.Nat.{ℕ, zero, suc, _+_, _^_, _≤_}
 use native.Mathlib.Omega.{arith}
 use lib.ListN.{length}
 use lib.Seq.{append-snoc}
-use Rattle.serial.specs.Serial.{next}
+use Rattle.serial_model.specs.Serial.{next}
 use Rattle.fragments.specs.Frag.{Frag, begins, ends, hasTsn}
 use Rattle.fragments.specs.Words.{size, find}
 use Rattle.loose_fragments.specs.Loose.{previous, runs, run, reach}

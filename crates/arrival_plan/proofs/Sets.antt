@@ -7,7 +7,7 @@ use Prim.Native.Nat.{ℕ, suc, _+_, _^_, _<_, _≤_}
 use native.Mathlib.Omega.{arith}
 use lib.ListN.{length, length-append}
 use borrow.Author.Tests.{le-ltb, eq-eqb, ne-eqb}
-use Rattle.serial.specs.Serial.{before}
+use Rattle.serial_model.specs.Serial.{before}
 use Rattle.fragments.specs.Frag.{Frag, ssnOf, hasTsn, tsnBefore, hasSsn, ssnBefore}
 use Rattle.fragments.specs.Words.{size, any, placed}
 use Rattle.fragment_sets.specs.Sets.{setOf, stored}

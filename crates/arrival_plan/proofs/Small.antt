@@ -6,7 +6,7 @@ use mathlib.Core.Bool.{Bool, true, false, cond}
 use mathlib.Core.List.{List, [], _∷_}
 use Prim.Native.Nat.{ℕ, _+_}
 use native.Mathlib.Omega.{arith}
-use Rattle.serial.specs.Serial.{ahead, distance, before}
+use Rattle.serial_model.specs.Serial.{ahead, distance, before}
 use Rattle.moves.specs.Lists.{slice, gone}
 use Rattle.fragments.specs.Frag.{Frag}
 use Rattle.fragments.specs.Words.{size, joined, any, while, past, find, placed}

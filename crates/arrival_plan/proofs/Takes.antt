@@ -8,7 +8,7 @@ use native.Mathlib.Omega.{arith}
 use lib.ListN.{length, take, drop}
 use lib.Seq.{take-at, drop-at}
 use borrow.Author.Tests.{lt-ltb, eqb-true, ne-eqb}
-use Rattle.serial.specs.Serial.{before}
+use Rattle.serial_model.specs.Serial.{before}
 use Rattle.fragments.specs.Frag.{Frag, ends, ssnOf, hasSsn}
 use Rattle.fragments.specs.Words.{joined, while}
 use Rattle.fragment_sets.specs.Sets.{complete}

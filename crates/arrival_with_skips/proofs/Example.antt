@@ -8,7 +8,7 @@ use Prim.Native.Nat.{ℕ, _*_, _≤_}
 use native.Mathlib.Omega.{arith}
 use lib.ListN.{length}
 use Rattle.wire.specs.Refusal.{none, says}
-use Rattle.serial.specs.Serial.{ahead, distance, before}
+use Rattle.serial_model.specs.Serial.{ahead, distance, before}
 use Rattle.chunk_payload_data.specs.Data.{identifierName, dataFlags, dataSent}
 use Rattle.moves.specs.Lists.{slice, gone}
 use Rattle.fragments.specs.Frag.{Frag}

@@ -10,7 +10,7 @@ use native.Mathlib.Omega.{arith}
 use lib.Dec.{ltb}
 use lib.ListN.{length}
 use borrow.Author.Tests.{lt-ltb, le-ltb, ltb-true, ltb-false}
-use Rattle.serial.specs.Serial.{before}
+use Rattle.serial_model.specs.Serial.{before}
 use Rattle.chunk_payload_data.specs.Data.{dataSent}
 use Rattle.reassembly_state.specs.State.{fragmentOf}
 use Rattle.reassembly_state.proofs.Chunk.{chunk-ssn}

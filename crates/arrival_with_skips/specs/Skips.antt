@@ -9,7 +9,7 @@ use Prim.Native.Nat.{ℕ, suc, _*_, _^_, _<_, _≤_}
 use lib.Dec.{ltb}
 use lib.ListN.{length, take, drop}
 use Rattle.wire.specs.Refusal.{Refusal, none, says}
-use Rattle.serial.specs.Serial.{before}
+use Rattle.serial_model.specs.Serial.{before}
 use Rattle.fragments.specs.Frag.{Frag}
 use Rattle.fragments.specs.Words.{size}
 use Rattle.reassembly_state.specs.Limits.{fragsMost, bytesMost}

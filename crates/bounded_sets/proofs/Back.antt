@@ -5,7 +5,7 @@ use mathlib.Core.Bool.{Bool, true, false, cond}
 use mathlib.Core.List.{List}
 use mathlib.Core.Option.{none, some}
 use Prim.Native.Nat.{ℕ}
-use Rattle.serial.specs.Serial.{next}
+use Rattle.serial_model.specs.Serial.{next}
 use Rattle.fragments.specs.Frag.{Frag}
 use Rattle.fragment_sets.specs.Sets.{sets}
 use Rattle.set_reach.specs.Kept.{ssnsOf, lowest}

@@ -7,7 +7,7 @@ use Prim.Native.Nat.{ℕ, _+_, _%_, _≤_, _<_}
 use lib.Dec.{eqb}
 use lib.ListN.{length, getD, take, drop}
 use borrow.Author.Tests.{eq-eqb, ne-eqb}
-use Rattle.serial.specs.Serial.{before, atOrBefore}
+use Rattle.serial_model.specs.Serial.{before, atOrBefore}
 use Rattle.table.specs.Rows.{blank}
 use Rattle.table.specs.declared.Row.{Row}
 use Rattle.fragments.specs.Frag.{Frag, ssnOf, bare}

@@ -4,7 +4,7 @@ ghost use mathlib.Core.Bool.{cond};
 ghost use mathlib.Core.List.{map};
 ghost use Prim.Native.Nat.{_+_, _*_, _≤_, _<_};
 ghost use lib.ListN.{length, take, drop};
-ghost use Rattle.serial.specs.Serial.{before};
+ghost use Rattle.serial_model.specs.Serial.{before};
 ghost use Rattle.table.specs.Rows.{rowsOf};
 ghost use Rattle.fragments.specs.Frag.{bare};
 ghost use Rattle.fragment_sets.specs.Sets.{sets};
@@ -22,7 +22,7 @@ fn holds_back(table: &[u32], at: usize, k: usize, last_ssn: u16, tsn: u32) -> bo
     ensures { λ r. ⌜ r ≡ heldBack «last_ssn» tsn (map bare (take k (drop at (rowsOf fragsMost (now (table .entry)))))) ⌝ }
 {
     let first = table::row_at(table, FRAGMENTS, at);
-    if !serial::sna16lte((first.id % 65536) as u16, last_ssn) {
+    if !serial_ssns::sna16lte((first.id % 65536) as u16, last_ssn) {
         return false;
     }
     !set_reach::is_reached(table, FRAGMENTS, at, k, tsn)
@@ -50,7 +50,7 @@ pub fn limit(table: &[u32], from: usize, n: usize, last_ssn: u16, tsn: u32) -> u
     if found {
         return lowest;
     }
-    serial::ssn_next(last_ssn)
+    serial_steps::ssn_next(last_ssn)
 }
 
 // Whether the set of k rows at an index is that of the last SSN, and is the expected one or reached by the point.
@@ -103,7 +103,7 @@ fn lower(found: bool, kept: u32, tsn: u32) -> u32
     if !found {
         return tsn;
     }
-    if serial::sna32lt(tsn, kept) {
+    if serial_tsns::sna32lt(tsn, kept) {
         return tsn;
     }
     kept
@@ -121,7 +121,7 @@ pub fn is_resolved(table: &[u32], from: usize, n: usize, last_ssn: u16, peer_las
     while i < n {
         let row = table::row_at(table, FRAGMENTS, from + i);
         i += 1;
-        if serial::sna16lte(last_ssn, (row.id % 65536) as u16) {
+        if serial_ssns::sna16lte(last_ssn, (row.id % 65536) as u16) {
             lowest = lower(found, lowest, row.tsn);
             found = true;
         }
@@ -129,7 +129,7 @@ pub fn is_resolved(table: &[u32], from: usize, n: usize, last_ssn: u16, peer_las
     if !found {
         return false;
     }
-    serial::sna32lte(lowest, peer_last_tsn)
+    serial_tsns::sna32lte(lowest, peer_last_tsn)
 }
 
 // Whether the set of k rows at an index may end a part: from the expected SSN on, before the last, and reached by the point or begun by the peer's last TSN.
@@ -149,14 +149,14 @@ pub fn ends_part(
 {
     let first = table::row_at(table, FRAGMENTS, at);
     let ssn = (first.id % 65536) as u16;
-    if !serial::sna16lte(expected, ssn) {
+    if !serial_ssns::sna16lte(expected, ssn) {
         return false;
     }
-    if !serial::sna16lt(ssn, last_ssn) {
+    if !serial_ssns::sna16lt(ssn, last_ssn) {
         return false;
     }
     if set_reach::is_reached(table, FRAGMENTS, at, k, tsn) {
         return true;
     }
-    serial::sna32lte(first.tsn, peer_last_tsn)
+    serial_tsns::sna32lte(first.tsn, peer_last_tsn)
 }

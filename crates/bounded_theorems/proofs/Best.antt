@@ -9,8 +9,8 @@ use Prim.Native.Nat.{ℕ, suc, _-_, _^_, _<_, _≤_}
 use native.Mathlib.Omega.{arith}
 use lib.Dec.{ltb}
 use borrow.Author.Tests.{ltb-true, ltb-false, lt-ltb, le-ltb}
-use Rattle.serial.specs.Serial.{ahead}
-use Rattle.serial.specs.Facts.{arc-order, plus-ahead}
+use Rattle.serial_model.specs.Serial.{ahead}
+use Rattle.serial_model.specs.Facts.{arc-order, plus-ahead}
 use Rattle.set_reach.specs.Kept.{keeps, kept, lower, higher}
 use Rattle.bounded_theorems.specs.Conditions.{OnArc, Best, None}
 

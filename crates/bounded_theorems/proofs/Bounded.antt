@@ -8,7 +8,7 @@ use mathlib.Core.Option as option
 use mathlib.Core.Option.{Option, some}
 use Prim.Native.Nat.{ℕ}
 use Rattle.wire.specs.Refusal.{none, says}
-use Rattle.serial.specs.Serial.{next, before, atOrBefore}
+use Rattle.serial_model.specs.Serial.{next, before, atOrBefore}
 use Rattle.fragments.specs.Frag.{Frag}
 use Rattle.fragment_sets.specs.Sets.{sets}
 use Rattle.set_reach.specs.Kept.{setSsn, someSet, ssnsOf, lower, higher, lowest, highest}

@@ -5,7 +5,7 @@ use mathlib.Core.Bool.{Bool, true, false, _||_, cond, true≢false}
 use mathlib.Core.Logic.{_↔_, ⊎-elim}
 use mathlib.Core.List.{List, [], _∷_, List·Memᴰ, List·Memᴰ·head, List·Memᴰ·tail, List·Memᴰ·not-nil, List·Memᴰ·cases-cons}
 use Prim.Native.Nat.{ℕ}
-use Rattle.serial.specs.Serial.{atOrBefore}
+use Rattle.serial_model.specs.Serial.{atOrBefore}
 use Rattle.fragments.specs.Frag.{Frag, ssnOf, hasSsn}
 use Rattle.fragment_sets.specs.Sets.{ahead, sets}
 use Rattle.set_reach.specs.Kept.{setSsn, someSet, ssnsOf}

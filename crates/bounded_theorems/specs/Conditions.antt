@@ -6,7 +6,7 @@ use mathlib.Core.Logic.{_⊎_}
 use mathlib.Core.List.{List, List·Memᴰ}
 use mathlib.Core.Option.{Option, none, some}
 use Prim.Native.Nat.{ℕ, suc, _^_, _<_}
-use Rattle.serial.specs.Serial.{next, ahead, before, atOrBefore}
+use Rattle.serial_model.specs.Serial.{next, ahead, before, atOrBefore}
 use Rattle.fragments.specs.Frag.{Frag, ssnOf}
 use Rattle.fragment_sets.specs.Sets.{sets}
 use Rattle.set_reach.specs.Kept.{setSsn, stays, lower, higher}

@@ -28,7 +28,7 @@ pub fn apply_to_stream(
             queue,
         },
         chunks::Number::Is(n) => {
-            if serial::sna32lte(new_cumulative_tsn, cumulative_tsn) {
+            if serial_tsns::sna32lte(new_cumulative_tsn, cumulative_tsn) {
                 return Forwarded {
                     answer: reassembly_queue::Done::All,
                     queue,

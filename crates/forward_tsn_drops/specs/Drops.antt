@@ -3,7 +3,7 @@
 use Prim.Native.Nat.{ℕ}
 use mathlib.Core.Bool.{Bool, true, false, cond}
 use Rattle.wire.specs.Refusal.{none, says}
-use Rattle.serial.specs.Serial.{atOrBefore}
+use Rattle.serial_model.specs.Serial.{atOrBefore}
 use Rattle.payload_model.specs.Queue as tsns
 use Rattle.payload_model.specs.Queue.{Queue, poppedUpTo}
 

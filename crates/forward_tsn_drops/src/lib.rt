@@ -23,7 +23,7 @@ pub fn apply_to_tsns(
             queue,
         },
         payload_queue::Number::Is(n) => {
-            if serial::sna32lte(new_cumulative_tsn, cumulative_tsn) {
+            if serial_tsns::sna32lte(new_cumulative_tsn, cumulative_tsn) {
                 return Dropped {
                     answer: payload_queue::Done::All,
                     queue,

@@ -10,7 +10,7 @@ use lib.Dec.{eqb}
 use lib.ListN.{length, getD, take, drop, length-drop, drop-of-length-le}
 use lib.Seq.{drop-cons, getD-drop, getD-take, length-take-le}
 use borrow.Author.Tests.{eq-eqb, ne-eqb, eqb-true, eqb-false}
-use Rattle.serial.specs.Serial.{next}
+use Rattle.serial_model.specs.Serial.{next}
 use Rattle.table.specs.Rows.{blank, rowsOf}
 use Rattle.table.specs.declared.Row.{Row}
 use Rattle.table.proofs.Columns.{rows-long}

@@ -6,7 +6,7 @@ use mathlib.Core.List.{List, [], _∷_, map}
 use Prim.Native.Nat.{ℕ, _+_, _≤_}
 use lib.Dec.{eqb}
 use lib.ListN.{length, take, drop}
-use Rattle.serial.specs.Serial.{next}
+use Rattle.serial_model.specs.Serial.{next}
 use Rattle.moves.specs.Lists.{put}
 use Rattle.table.specs.Rows.{total, some, upToLast, aheadOf}
 use Rattle.table.specs.declared.Row.{Row}

@@ -6,7 +6,7 @@ use mathlib.Core.List.{List, [], _∷_, _++_}
 use Prim.Native.Nat.{ℕ, _+_, _≤_}
 use lib.ListN.{length}
 use borrow.Author.Tests.{eqb-true}
-use Rattle.serial.specs.Serial.{atOrBefore}
+use Rattle.serial_model.specs.Serial.{atOrBefore}
 use Rattle.moves.specs.Lists.{put}
 use Rattle.fragments.specs.Frag.{Frag, ssnOf, hasSsn, ssnBefore}
 use Rattle.fragments.specs.Words.{any, while, past, placed, concat}

@@ -4,7 +4,7 @@ use Prim.Native.Nat.{ℕ}
 use mathlib.Core.Bool.{Bool, true, false, cond, not, _&&_}
 use mathlib.Core.List.{List, [], _∷_, _++_}
 use lib.Dec.{eqb}
-use Rattle.serial.specs.Serial.{next, atOrBefore}
+use Rattle.serial_model.specs.Serial.{next, atOrBefore}
 use Rattle.fragments.specs.Frag.{Frag, begins, ends, ssnOf, hasSsn, tsnBefore, ssnBefore}
 use Rattle.fragments.specs.Words.{any, while, past, placed, concat}
 

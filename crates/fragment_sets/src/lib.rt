@@ -90,7 +90,7 @@ pub fn place_ssn(table: &[u32], size: usize, from: usize, n: usize, ssn: u16) ->
     while 0 < place {
         let at = place - 1;
         let held = (table[ids + at] % 65536) as u16;
-        if serial::sna16lt(held, ssn) {
+        if serial_ssns::sna16lt(held, ssn) {
             return place;
         }
         place = at;
@@ -133,7 +133,7 @@ pub fn is_complete(table: &[u32], size: usize, from: usize, n: usize) -> bool
     let tsns = size + from;
     let mut i: usize = 0;
     while i < end {
-        let next = serial::tsn_next(table[tsns + i]);
+        let next = serial_steps::tsn_next(table[tsns + i]);
         i += 1;
         if table[tsns + i] != next {
             return false;

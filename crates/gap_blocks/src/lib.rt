@@ -21,7 +21,7 @@ pub fn count_blocks(table: &[u32], size: usize, n: usize, cumulative: u32) -> us
     let mut want: u32 = 0;
     let mut i: usize = 0;
     while i < n {
-        let offset = serial::tsn_offset(cumulative, table[size + i]);
+        let offset = serial_steps::tsn_offset(cumulative, table[size + i]);
         i += 1;
         if 0 < offset {
             if offset <= FARTHEST {
@@ -61,13 +61,13 @@ pub fn write_blocks(
     let mut i: usize = 0;
     while i < n {
         let tsn = table[size + i];
-        let offset = serial::tsn_offset(cumulative, tsn);
+        let offset = serial_steps::tsn_offset(cumulative, tsn);
         i += 1;
         if 0 < offset {
             if offset <= FARTHEST {
                 if offset == want {
                     let room = (FARTHEST - offset) as usize;
-                    let more = following(table, size, i, n, room, serial::tsn_next(tsn));
+                    let more = following(table, size, i, n, room, serial_steps::tsn_next(tsn));
                     let last = offset + more as u32;
                     ends[count - 1] = last as u16;
                     want = last + 1;

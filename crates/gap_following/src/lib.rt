@@ -34,7 +34,7 @@ pub fn following(table: &[u32], size: usize, from: usize, n: usize, room: usize,
             return i;
         }
         i += 1;
-        want = serial::tsn_next(want);
+        want = serial_steps::tsn_next(want);
     }
     i
 }

@@ -10,7 +10,7 @@ use lib.Dec.{eqb, ltb}
 use lib.ListN.{length, getD, drop, set, length-append, length-drop, length-map, drop-of-length-le}
 use lib.Seq.{drop-cons, drop-drop, set-set}
 use borrow.Author.Tests.{eqb-true, eq-eqb, ne-eqb, ltb-true, ltb-false}
-use Rattle.serial.specs.Serial.{ahead, next}
+use Rattle.serial_model.specs.Serial.{ahead, next}
 use Rattle.gap_model.specs.Gap.{Block, block, walk, endsOf}
 use Rattle.gap_model.specs.Adjacent.{adjacent}
 use Rattle.gap_model.proofs.Walk.{Seen, Put, held, held-at, held-long, last, grown, counted, walk-cons, want-snoc, wantFrom, over-last, put-grow}

@@ -9,8 +9,8 @@ use native.Mathlib.Omega.{arith}
 use native.Mathlib.Decide.{decLe}
 use lib.Dec.{eqb, ltb, leb}
 use borrow.Author.Tests.{ltb-true, leb-true, eqb-true, eqb-false}
-use Rattle.serial.specs.Serial.{ahead, plus}
-use Rattle.serial.specs.Facts.{plus-ahead, ahead-plus}
+use Rattle.serial_model.specs.Serial.{ahead, plus}
+use Rattle.serial_model.specs.Facts.{plus-ahead, ahead-plus}
 use Rattle.gap_model.specs.Gap.{Block, block, counts, extend, walk, blocks}
 use Rattle.gap_model.proofs.Walk.{counted, wantFrom}
 use Rattle.gap_model.specs.Report.{Each, Separate, Proper, In, Received, Covers, InArc, Ordered}

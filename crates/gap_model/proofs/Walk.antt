@@ -10,7 +10,7 @@ use lib.Dec.{eqb}
 use lib.ListN.{length, getD, take, drop, set, length-append, length-map, drop-of-length-le, List·getD-map}
 use lib.Seq.{drop-cons, getD-take, length-take-le, append-snoc, set-at}
 use borrow.Author.Tests.{lt-ltb, le-ltb, le-leb, lt-leb, eq-eqb, ne-eqb}
-use Rattle.serial.specs.Serial.{ahead}
+use Rattle.serial_model.specs.Serial.{ahead}
 use Rattle.wire.specs.BigEndian.{over}
 use Rattle.wire.specs.Facts.{over-snoc, over-length}
 use Rattle.table.specs.Rows.{blank, rowsOf}

@@ -4,7 +4,7 @@ use Prim.Native.Nat.{ℕ, zero, suc}
 use mathlib.Core.Bool.{cond}
 use mathlib.Core.List.{List, [], _∷_}
 use lib.Dec.{eqb}
-use Rattle.serial.specs.Serial.{next}
+use Rattle.serial_model.specs.Serial.{next}
 
 -- how many of the TSNs at the front of a list follow one another, from t on; at most k
 unfoldable pub adjacent : ℕ → ℕ → List ℕ → ℕ

@@ -5,7 +5,7 @@ use mathlib.Core.Bool.{Bool, cond, _&&_}
 use mathlib.Core.List.{List, [], _∷_, map}
 use lib.Dec.{ltb, leb, eqb}
 use lib.ListN.{length}
-use Rattle.serial.specs.Serial.{ahead}
+use Rattle.serial_model.specs.Serial.{ahead}
 use Rattle.wire.specs.BigEndian.{over}
 use Rattle.table.specs.declared.Row.{Row}
 use Rattle.gap_model.specs.declared.Reported.{Reported}

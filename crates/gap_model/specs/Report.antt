@@ -4,7 +4,7 @@ use mathlib.Core.Path.{_≡_}
 use mathlib.Core.Logic.{_↔_, _⊎_}
 use mathlib.Core.List.{List, [], _∷_, List·Memᴰ}
 use Prim.Native.Nat.{ℕ, _+_, _^_, _<_, _≤_}
-use Rattle.serial.specs.Serial.{ahead}
+use Rattle.serial_model.specs.Serial.{ahead}
 use Rattle.gap_model.specs.Gap.{Block}
 
 -- "Gap Ack Block Start", "Gap Ack Block End": offsets of 16 bits from 1 on, the start no later than the end

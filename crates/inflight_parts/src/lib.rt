@@ -70,7 +70,7 @@ pub fn keep_numbers(table: &[u32], messages: &mut [u64], n: usize, tsn: u32)
         let message = messages[i];
         let here = table[TSNS + i];
         i += 1;
-        if !serial::sna32lte(here, tsn) {
+        if !serial_tsns::sna32lte(here, tsn) {
             messages[left] = message;
             left += 1;
         }

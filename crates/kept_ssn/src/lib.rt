@@ -1,7 +1,7 @@
 // Of the SSNs passed so far the one to keep: the lowest, or the highest.
 ghost use mathlib.Core.Path.{_≡_};
 ghost use mathlib.Core.Bool.{cond};
-ghost use Rattle.serial.specs.Serial.{before};
+ghost use Rattle.serial_model.specs.Serial.{before};
 
 // The lower of two SSNs, the first of them on a tie; the second where there is no first.
 pub fn lower(found: bool, kept: u16, ssn: u16) -> u16
@@ -10,7 +10,7 @@ pub fn lower(found: bool, kept: u16, ssn: u16) -> u16
     if !found {
         return ssn;
     }
-    if serial::sna16lt(ssn, kept) {
+    if serial_ssns::sna16lt(ssn, kept) {
         return ssn;
     }
     kept
@@ -23,7 +23,7 @@ pub fn higher(found: bool, kept: u16, ssn: u16) -> u16
     if !found {
         return ssn;
     }
-    if serial::sna16gt(ssn, kept) {
+    if serial_ssns::sna16gt(ssn, kept) {
         return ssn;
     }
     kept

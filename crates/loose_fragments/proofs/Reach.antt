@@ -9,8 +9,8 @@ use native.Mathlib.Nat.{mod-add-mod, add-mod-right}
 use native.Mathlib.Omega.{arith}
 use borrow.Author.Tests.{eqb-true}
 use lib.ListN.{length, length-map, length-replicate}
-use Rattle.serial.specs.Serial.{plus, next, ahead}
-use Rattle.serial.specs.Facts.{plus-plus, ahead-lt, ahead-plus}
+use Rattle.serial_model.specs.Serial.{plus, next, ahead}
+use Rattle.serial_model.specs.Facts.{plus-plus, ahead-lt, ahead-plus}
 use Rattle.table.specs.Rows.{total}
 use Rattle.table.specs.declared.Row.{Row}
 use Rattle.fragments.specs.Frag.{Frag, bare, begins, ends, hasTsn, longLength}

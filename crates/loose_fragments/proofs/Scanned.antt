@@ -11,7 +11,7 @@ use borrow.Author.Tests.{lt-ltb, le-ltb, ltb-true}
 use lib.Dec.{ltb, eqb}
 use lib.ListN.{length, getD, take, drop, drop-of-length-le, List·getD-map}
 use lib.Seq.{drop-cons, getD-drop, getD-take}
-use Rattle.serial.specs.Serial.{next}
+use Rattle.serial_model.specs.Serial.{next}
 use Rattle.table.specs.Rows.{blank, rowsOf, some}
 use Rattle.table.specs.declared.Row.{Row}
 use Rattle.table.proofs.Scans.{neither, head-at, tsn-at}

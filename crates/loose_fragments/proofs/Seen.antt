@@ -7,7 +7,7 @@ use mathlib.Core.Option as option
 use Prim.Native.Nat.{ℕ, zero, suc, _≤_}
 use lib.Dec.{ltb}
 use lib.ListN.{length, take, length-replicate}
-use Rattle.serial.specs.Serial.{next}
+use Rattle.serial_model.specs.Serial.{next}
 use Rattle.table.specs.Rows.{total}
 use Rattle.table.specs.declared.Row.{Row}
 use Rattle.fragments.specs.Frag.{Frag, begins, ends, hasTsn, longLength, fragOf, bare}

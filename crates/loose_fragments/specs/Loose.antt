@@ -6,7 +6,7 @@ use mathlib.Core.List.{List, [], _∷_}
 use mathlib.Core.Option.{Option, none, some}
 use lib.Dec.{ltb}
 use lib.ListN.{length}
-use Rattle.serial.specs.Serial.{next, ahead}
+use Rattle.serial_model.specs.Serial.{next, ahead}
 use Rattle.fragments.specs.Frag.{Frag, begins, ends, hasTsn}
 use Rattle.fragments.specs.Words.{find}
 use Rattle.loose_fragments.specs.declared.Span.{Span}

@@ -24,7 +24,7 @@ pub fn find_after(table: &[u32], size: usize, from: usize, n: usize, tsn: u32) -
     let tsns = size + from;
     let mut i: usize = 0;
     while i < n {
-        if serial::sna32lt(tsn, table[tsns + i]) {
+        if serial_tsns::sna32lt(tsn, table[tsns + i]) {
             return i;
         }
         i += 1;
@@ -40,7 +40,7 @@ pub fn run_down(table: &[u32], size: usize, from: usize, n: usize, tsn: u32) -> 
     ensures { λ r. ⌜ r ≡ runDown tsn (map bare (take n (drop from (rowsOf size (now (table .entry)))))) ⌝ }
 {
     let mut sum: usize = 0;
-    let mut want = serial::tsn_offset(1, tsn);
+    let mut want = serial_steps::tsn_offset(1, tsn);
     let mut i: usize = 0;
     while i < n {
         i += 1;
@@ -53,7 +53,7 @@ pub fn run_down(table: &[u32], size: usize, from: usize, n: usize, tsn: u32) -> 
         if head / 16777216 / 2 % 2 == 1 {
             return sum;
         }
-        want = serial::tsn_offset(1, want);
+        want = serial_steps::tsn_offset(1, want);
     }
     sum
 }
@@ -66,7 +66,7 @@ pub fn run_up(table: &[u32], size: usize, from: usize, n: usize, tsn: u32) -> us
     ensures { λ r. ⌜ r ≡ runUp tsn (map bare (take n (drop from (rowsOf size (now (table .entry)))))) ⌝ }
 {
     let mut sum: usize = 0;
-    let mut want = serial::tsn_next(tsn);
+    let mut want = serial_steps::tsn_next(tsn);
     let mut i: usize = 0;
     while i < n {
         i += 1;
@@ -79,7 +79,7 @@ pub fn run_up(table: &[u32], size: usize, from: usize, n: usize, tsn: u32) -> us
         if head / 16777216 % 2 == 1 {
             return sum;
         }
-        want = serial::tsn_next(want);
+        want = serial_steps::tsn_next(want);
     }
     sum
 }
@@ -105,7 +105,7 @@ fn scan_rows(table: &[u32], size: usize, from: usize, n: usize) -> Span
                 return Span { from: start, to: i };
             }
         }
-        want = serial::tsn_next(tsn);
+        want = serial_steps::tsn_next(tsn);
     }
     Span { from: 0, to: 0 }
 }

@@ -18,5 +18,5 @@ pub fn can_push(counts: Counts, table: &[u32; WORDS], tsn: u32, cumulative: u32)
     if table_search::has_tsn(table, TSNS, 0, count, tsn) {
         return Flag::Is(false);
     }
-    Flag::Is(!serial::sna32lte(tsn, cumulative))
+    Flag::Is(!serial_tsns::sna32lte(tsn, cumulative))
 }

@@ -7,11 +7,11 @@ use Prim.Native.Nat.{ℕ, _^_, _<_}
 use lib.Dec.{ltb}
 use borrow.Author.Tests.{ltb-true}
 use Rattle.wire.specs.Refusal.{none, refuse, says}
-use Rattle.serial.specs.Serial.{atOrBefore, compared, isOpposite, opposite}
+use Rattle.serial_model.specs.Serial.{atOrBefore, compared, isOpposite, opposite}
 use Rattle.serial_model.specs.declared.Order.{Order}
 use Rattle.serial_model.specs.declared.Order.the-variants.{Earlier, Same, Later, Opposite}
-use Rattle.serial.specs.Facts.{both}
-use Rattle.serial.specs.Compared.{isAtOrBefore, at-or-before-told}
+use Rattle.serial_model.specs.Facts.{both}
+use Rattle.serial_model.specs.Compared.{isAtOrBefore, at-or-before-told}
 use Rattle.table.specs.Rows.{some, kept, hasTsn}
 use Rattle.table.specs.declared.Row.{Row}
 use Rattle.payload_model.specs.Queue.{Queue, held, unsound, after, turnedAway, pushed, canPush, staysAfter, poppedUpTo}

@@ -13,7 +13,7 @@ use borrow.Author.Tests.{ltb-true, leb-false, le-ltb, le-leb, eq-eqb}
 use Rattle.wire.specs.BigEndian.{over}
 use Rattle.wire.specs.Facts.{over-length}
 use Rattle.wire.specs.Refusal.{none, refuse, says}
-use Rattle.serial.specs.Serial.{ahead, distance, before, atOrBefore, ordered, compared, opposite}
+use Rattle.serial_model.specs.Serial.{ahead, distance, before, atOrBefore, ordered, compared, opposite}
 use Rattle.moves.specs.Lists.{put}
 use Rattle.table.specs.Rows.{row, total, some, upToLast, kept, shortLength, hasTsn, tsnBefore}
 use Rattle.table.specs.declared.Row.{Row}

@@ -10,7 +10,7 @@ use lib.Dec.{ltb, leb}
 use lib.ListN.{set, take}
 use borrow.Author.Tests.{lt-ltb, le-ltb}
 use Rattle.wire.specs.Refusal.{none, refuse, Told, says}
-use Rattle.serial.specs.Serial.{opposite}
+use Rattle.serial_model.specs.Serial.{opposite}
 use Rattle.table.specs.Rows.{some, hasTsn}
 use Rattle.table.specs.declared.Row.{Row}
 use Rattle.payload_model.specs.Limits.{tsnsMost, logMost}

@@ -7,7 +7,7 @@ use lib.Dec.{ltb, leb, eqb}
 use lib.ListN.{length, take, drop, getD, set, replicate}
 use Rattle.wire.specs.BigEndian.{over}
 use Rattle.wire.specs.Refusal.{none, refuse, Told, says}
-use Rattle.serial.specs.Serial.{atOrBefore, opposite}
+use Rattle.serial_model.specs.Serial.{atOrBefore, opposite}
 use Rattle.chunk_payload_data.specs.Layout.{Data}
 use Rattle.chunk_payload_data.specs.Data.{DataValues, noData, dataShown, dataFlags, dataSent}
 use Rattle.chunk_payload_data.specs.declared.ChunkPayloadData.{ChunkPayloadData}

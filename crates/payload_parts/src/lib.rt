@@ -37,7 +37,7 @@ pub fn keep_after(table: &mut [u32], n: usize, tsn: u32) -> usize
     while i < n {
         let row = table::row_at(table, TSNS, i);
         i += 1;
-        if !serial::sna32lte(row.tsn, tsn) {
+        if !serial_tsns::sna32lte(row.tsn, tsn) {
             table::set_row(table, TSNS, left, row);
             left += 1;
         }

@@ -5,9 +5,9 @@ use mathlib.Core.Bool.{true, false, or-true}
 use Prim.Native.Nat.{ℕ, _^_, _<_, _≤_}
 use borrow.Author.Tests.{le-leb, lt-leb}
 use Rattle.wire.specs.Refusal.{none, refuse, says}
-use Rattle.serial.specs.Serial.{atOrBefore, compared}
+use Rattle.serial_model.specs.Serial.{atOrBefore, compared}
 use Rattle.serial_model.specs.declared.Order.the-variants.{Earlier, Same, Later, Opposite}
-use Rattle.serial.specs.Compared.{isAtOrBefore, at-or-before-told}
+use Rattle.serial_model.specs.Compared.{isAtOrBefore, at-or-before-told}
 use Rattle.table.specs.Rows.{some, hasTsn}
 use Rattle.table.specs.declared.Row.{Row}
 use Rattle.payload_model.specs.Limits.{tsnsMost}

@@ -13,7 +13,7 @@ use payload_model::Flag;
 use payload_model::Pushed;
 use payload_model::TSNS;
 use payload_model::WORDS;
-use serial::Order;
+use serial_model::Order;
 
 // A refusal, and the queue as it was.
 fn refused(counts: Counts, number: u8) -> Pushed
@@ -51,7 +51,7 @@ pub fn push(
     }
     let row = payload_record::row_of(chunk, size);
     let tsn = row.tsn;
-    match serial::tsn_compare(tsn, cumulative) {
+    match serial_compare::tsn_compare(tsn, cumulative) {
         Order::Opposite => return refused(counts, 17),
         Order::Earlier => return turned_away(counts, tsn),
         Order::Same => return turned_away(counts, tsn),

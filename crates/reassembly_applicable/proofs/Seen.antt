@@ -8,7 +8,7 @@ use mathlib.Core.Option.{Option, some}
 use Prim.Native.Nat.{ℕ, _≤_}
 use lib.ListN.{length}
 use Rattle.wire.specs.Refusal.{none, Told, says}
-use Rattle.serial.specs.Serial.{before}
+use Rattle.serial_model.specs.Serial.{before}
 use Rattle.fragments.specs.Frag.{Frag, bare}
 use Rattle.fragment_sets.specs.Sets.{sets}
 use Rattle.set_reach.specs.Kept.{someSet, ssnsOf, highest}

@@ -36,7 +36,7 @@ pub fn applies(
     ensures { λ r. ⌜ ((pool : List ℕ) → applicableTold r ≡ says none (foundIn (applies (view (stateOf counts (now (table .entry)) pool)) «last_ssn» «new_cumulative_tsn» «peer_last_tsn»))) ⌝ }
 {
     let expected = counts.next_ssn;
-    if serial::sna16gt(expected, last_ssn) {
+    if serial_ssns::sna16gt(expected, last_ssn) {
         return Applicable::Ssn(last_ssn);
     }
     let from = counts.finished + counts.unordered;

@@ -67,7 +67,7 @@ pub fn ask(queue: Counts, table: &[u32], chunk: ChunkPayloadData, more: usize, r
     if too_large(queue, table, at, run, more) {
         return answered(Flag::Refused(6), false, at, run);
     }
-    if serial::sna16lt(ssn, queue.next_ssn) {
+    if serial_ssns::sna16lt(ssn, queue.next_ssn) {
         return answered(Flag::Is(false), false, at, run);
     }
     if table_search::has_tsn(table, FRAGMENTS, at, run, chunk.tsn) {

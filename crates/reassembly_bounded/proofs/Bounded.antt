@@ -6,7 +6,7 @@ use mathlib.Core.List.{List, map}
 use mathlib.Core.Option.{Option·getD}
 use Prim.Native.Nat.{ℕ}
 use lib.ListN.{length}
-use Rattle.serial.specs.Serial.{next, before}
+use Rattle.serial_model.specs.Serial.{next, before}
 use Rattle.fragments.specs.Frag.{bare}
 use Rattle.set_reach.specs.Kept.{lowest, stays}
 use Rattle.set_reach.proofs.Blind.{Blind, blind-cut, up-to-blind, reached-blind, ssns-blind}

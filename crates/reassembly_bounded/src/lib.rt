@@ -35,7 +35,7 @@ pub fn skip_bounded(
         true,
         new_cumulative_tsn,
     );
-    if serial::sna16lt(queue.next_ssn, next) {
+    if serial_ssns::sna16lt(queue.next_ssn, next) {
         queue.next_ssn = next;
     }
     queue

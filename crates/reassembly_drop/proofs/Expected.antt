@@ -3,7 +3,7 @@
 use mathlib.Core.Path.{_≡_, refl, sym, ap, _∙_}
 use mathlib.Core.Bool.{true, false, cond}
 use Prim.Native.Nat.{ℕ}
-use Rattle.serial.specs.Serial.{next, atOrBefore}
+use Rattle.serial_model.specs.Serial.{next, atOrBefore}
 use Rattle.reassembly_state.specs.Model.{Queue, withOrdered, dropIncomplete, skipOrdered}
 use Rattle.set_reach.specs.Kept.{stays, dropped}
 use Rattle.set_reach.proofs.Skip.{skipped-stays}

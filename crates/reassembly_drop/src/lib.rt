@@ -21,7 +21,7 @@ fn passed_over(table: &[u32], at: usize, k: usize, last_ssn: u16, bounded: bool,
     ensures { λ r. ⌜ r ≡ dropped «last_ssn» bounded tsn (map bare (take k (drop at (rowsOf fragsMost (now (table .entry)))))) ⌝ }
 {
     let first = table::row_at(table, FRAGMENTS, at);
-    if !serial::sna16lte((first.id % 65536) as u16, last_ssn) {
+    if !serial_ssns::sna16lte((first.id % 65536) as u16, last_ssn) {
         return false;
     }
     if fragment_sets::is_complete(table, FRAGMENTS, at, k) {

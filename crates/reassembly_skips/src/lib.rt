@@ -16,8 +16,8 @@ pub fn skip_ordered(counts: Counts, table: &mut [u32], pool: &mut [u8], last_ssn
     ensures { λ r. ⌜ stateOf r (now (table .exit)) (now (pool .exit)) ≡ lay (skipOrdered (view (stateOf counts (now (table .entry)) (now (pool .entry)))) «last_ssn») (stateOf counts (now (table .entry)) (now (pool .entry))) ⌝ }
 {
     let mut queue = reassembly_drop::drop_sets(counts, table, pool, last_ssn, false, 0);
-    if serial::sna16lte(queue.next_ssn, last_ssn) {
-        queue.next_ssn = serial::ssn_next(last_ssn);
+    if serial_ssns::sna16lte(queue.next_ssn, last_ssn) {
+        queue.next_ssn = serial_steps::ssn_next(last_ssn);
     }
     queue
 }

@@ -7,7 +7,7 @@ use lib.Dec.{ltb, leb, eqb}
 use lib.ListN.{length, take, drop}
 use Rattle.wire.specs.BigEndian.{over}
 use Rattle.wire.specs.Refusal.{none, refuse, Told, says}
-use Rattle.serial.specs.Serial.{next, before, atOrBefore}
+use Rattle.serial_model.specs.Serial.{next, before, atOrBefore}
 use Rattle.moves.specs.Lists.{slice, gone}
 use Rattle.fragments.specs.Frag.{Frag, ends, ssnOf, hasTsn, tsnBefore, tsnAfter, hasSsn}
 use Rattle.fragments.specs.Words.{size, joined, any, while, past, placed}

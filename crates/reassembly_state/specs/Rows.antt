@@ -8,7 +8,7 @@ use lib.Dec.{ltb, eqb}
 use lib.ListN.{length, take, drop}
 use Rattle.wire.specs.BigEndian.{over}
 use Rattle.wire.specs.Refusal.{none, refuse, Told, says}
-use Rattle.serial.specs.Serial.{next}
+use Rattle.serial_model.specs.Serial.{next}
 use Rattle.chunk_payload_data.specs.declared.ChunkPayloadData.{ChunkPayloadData}
 use Rattle.moves.specs.Lists.{slice, gone}
 use Rattle.table.specs.Rows.{aheadOf}

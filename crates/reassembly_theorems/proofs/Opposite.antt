@@ -4,10 +4,10 @@ use mathlib.Core.Path.{_≡_, refl, sym, _∙_}
 use mathlib.Core.Bool.{Bool, true, false, true≢false}
 use mathlib.Core.List.{List, _∷_}
 use Prim.Native.Nat.{ℕ}
-use Rattle.serial.specs.Serial.{before, compared, isOpposite, opposite}
+use Rattle.serial_model.specs.Serial.{before, compared, isOpposite, opposite}
 use Rattle.serial_model.specs.declared.Order.{Order}
 use Rattle.serial_model.specs.declared.Order.the-variants.{Earlier, Same, Later, Opposite}
-use Rattle.serial.specs.Compared.{isBefore, before-told}
+use Rattle.serial_model.specs.Compared.{isBefore, before-told}
 use Rattle.fragments.specs.Frag.{Frag}
 use Rattle.fragments.specs.Words.{past}
 use Rattle.reassembly_state.specs.Model.{Queue, queue, notAfter, skipUnordered}

@@ -10,7 +10,7 @@ use lib.Dec.{ltb, leb, eqb}
 use lib.ListN.{length, length-map}
 use Rattle.wire.specs.Facts.{over-length}
 use Rattle.wire.specs.Refusal.{none, says}
-use Rattle.serial.specs.Serial.{before}
+use Rattle.serial_model.specs.Serial.{before}
 use Rattle.chunk_payload_data.specs.declared.ChunkPayloadData.{ChunkPayloadData}
 use Rattle.table.specs.Rows.{total}
 use Rattle.fragments.specs.Frag.{Frag, ssnOf, hasTsn, rowOf}

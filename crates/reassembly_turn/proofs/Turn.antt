@@ -12,7 +12,7 @@ use lib.ListN.{length, take, drop, length-take, length-drop}
 use lib.Seq.{take-take, take-all, length-take-le}
 use Rattle.wire.specs.BigEndian.{over}
 use Rattle.wire.specs.Refusal.{none, refuse, says}
-use Rattle.serial.specs.Serial.{next, before}
+use Rattle.serial_model.specs.Serial.{next, before}
 use Rattle.moves.specs.Lists.{slice, gone}
 use Rattle.table.specs.Rows.{aheadOf}
 use Rattle.table.specs.declared.Row.{Row}

@@ -27,7 +27,7 @@ pub fn ready(queue: Counts, table: &[u32]) -> usize
     let from = queue.finished + queue.unordered;
     let first = table::row_at(table, FRAGMENTS, from);
     let ssn = (first.id % 65536) as u16;
-    if serial::sna16lt(queue.next_ssn, ssn) {
+    if serial_ssns::sna16lt(queue.next_ssn, ssn) {
         return 0;
     }
     let run = fragment_sets::run_ssn(table, FRAGMENTS, from, queue.ordered, ssn);
@@ -82,7 +82,7 @@ pub fn without(queue: Counts, k: usize, bytes: usize, ssn: u16) -> Counts
     }
     left.ordered = queue.ordered - k;
     if ssn == queue.next_ssn {
-        left.next_ssn = serial::ssn_next(ssn);
+        left.next_ssn = serial_steps::ssn_next(ssn);
     }
     left
 }

@@ -6,7 +6,7 @@ use mathlib.Core.List.{List, [], _∷_, map}
 use Prim.Native.Nat.{ℕ}
 use lib.Dec.{eqb}
 use lib.ListN.{drop}
-use Rattle.serial.specs.Serial.{next, atOrBefore}
+use Rattle.serial_model.specs.Serial.{next, atOrBefore}
 use Rattle.table.specs.declared.Row.{Row}
 use Rattle.fragments.specs.Frag.{Frag, begins, ssnOf, hasSsn, longLength, bare}
 use Rattle.fragments.specs.Pool.{cut}

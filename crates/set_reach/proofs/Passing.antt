@@ -8,7 +8,7 @@ use native.Mathlib.Omega.{arith}
 use borrow.Author.Tests.{eq-eqb}
 use lib.ListN.{length, getD, take, drop, length-drop}
 use lib.Seq.{drop-drop, length-take-le, take-take}
-use Rattle.serial.specs.Serial.{atOrBefore}
+use Rattle.serial_model.specs.Serial.{atOrBefore}
 use Rattle.table.specs.Rows.{blank, rowsOf, aheadOf}
 use Rattle.table.specs.declared.Row.{Row}
 use Rattle.table.proofs.Columns.{rows-long}

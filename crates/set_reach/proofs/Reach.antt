@@ -8,7 +8,7 @@ use native.Mathlib.Omega.{arith}
 use lib.Dec.{eqb}
 use lib.ListN.{length, getD, take, drop}
 use borrow.Author.Tests.{eq-eqb, ne-eqb}
-use Rattle.serial.specs.Serial.{next, atOrBefore}
+use Rattle.serial_model.specs.Serial.{next, atOrBefore}
 use Rattle.table.specs.Rows.{blank, rowsOf}
 use Rattle.table.specs.declared.Row.{Row}
 use Rattle.table.proofs.Columns.{rows-long}

@@ -8,7 +8,7 @@ use mathlib.Core.Option as option
 use mathlib.Core.Option.{Option, some}
 use lib.Dec.{eqb}
 use Rattle.wire.specs.Refusal.{none, refuse, Told, says}
-use Rattle.serial.specs.Serial.{before, atOrBefore}
+use Rattle.serial_model.specs.Serial.{before, atOrBefore}
 use Rattle.fragments.specs.Frag.{Frag, ssnOf}
 use Rattle.fragment_sets.specs.Sets.{sets}
 use Rattle.set_reach.specs.Reach.{reached}

@@ -5,7 +5,7 @@ use mathlib.Core.Bool.{Bool, true, false, not, _&&_, cond}
 use mathlib.Core.List.{List}
 use mathlib.Core.Option.{Option·getD}
 use Rattle.wire.specs.Refusal.{none, says}
-use Rattle.serial.specs.Serial.{next, before}
+use Rattle.serial_model.specs.Serial.{next, before}
 use Rattle.fragments.specs.Frag.{Frag}
 use Rattle.fragment_sets.specs.Sets.{sets, setUpTo}
 use Rattle.set_reach.specs.Reach.{reached}

@@ -4,7 +4,7 @@ use Prim.Native.Nat.{ℕ}
 use mathlib.Core.Bool.{Bool, false, not, _&&_, _||_, cond}
 use mathlib.Core.List.{List, [], _∷_}
 use mathlib.Core.Option.{Option, none, some}
-use Rattle.serial.specs.Serial.{before}
+use Rattle.serial_model.specs.Serial.{before}
 use Rattle.fragments.specs.Frag.{Frag, ssnOf}
 use Rattle.fragments.specs.Words.{concat}
 use Rattle.fragment_sets.specs.Sets.{complete, sets, setUpTo}

@@ -4,7 +4,7 @@ use Prim.Native.Nat.{ℕ}
 use mathlib.Core.Bool.{Bool, true, false, not, _&&_, _||_, cond}
 use mathlib.Core.List.{List, [], _∷_}
 use lib.Dec.{eqb}
-use Rattle.serial.specs.Serial.{next, atOrBefore}
+use Rattle.serial_model.specs.Serial.{next, atOrBefore}
 use Rattle.fragments.specs.Frag.{Frag, begins, ends}
 use Rattle.fragment_sets.specs.Sets.{complete}
 use Rattle.loose_fragments.specs.Loose.{previous}

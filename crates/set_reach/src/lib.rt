@@ -28,7 +28,7 @@ fn all_up_to(table: &[u32], size: usize, from: usize, n: usize, tsn: u32) -> boo
     let tsns = size + from;
     let mut i: usize = 0;
     while i < n {
-        if !serial::sna32lte(table[tsns + i], tsn) {
+        if !serial_tsns::sna32lte(table[tsns + i], tsn) {
             return false;
         }
         i += 1;
@@ -47,10 +47,10 @@ fn has_gap(table: &[u32], size: usize, from: usize, n: usize, tsn: u32) -> bool
     let end = n - 1;
     let mut i: usize = 0;
     while i < end {
-        let next = serial::tsn_next(table[tsns + i]);
+        let next = serial_steps::tsn_next(table[tsns + i]);
         i += 1;
         if table[tsns + i] != next {
-            if serial::sna32lte(next, tsn) {
+            if serial_tsns::sna32lte(next, tsn) {
                 return true;
             }
         }
@@ -58,7 +58,7 @@ fn has_gap(table: &[u32], size: usize, from: usize, n: usize, tsn: u32) -> bool
     if table[from + end] / 16777216 % 2 == 1 {
         return false;
     }
-    serial::sna32lte(serial::tsn_next(table[tsns + end]), tsn)
+    serial_tsns::sna32lte(serial_steps::tsn_next(table[tsns + end]), tsn)
 }
 
 // Whether a TSN that the set lacks is at or before one.
@@ -78,7 +78,7 @@ pub fn is_missing_tsn_at_or_before(
     if first.head / 16777216 / 2 % 2 == 1 {
         return has_gap(table, size, from, n, tsn);
     }
-    if serial::sna32lte(serial::tsn_offset(1, first.tsn), tsn) {
+    if serial_tsns::sna32lte(serial_steps::tsn_offset(1, first.tsn), tsn) {
         return true;
     }
     has_gap(table, size, from, n, tsn)

@@ -7,8 +7,8 @@ use Prim.Native.Nat.{ℕ, _*_, _≤_}
 use lib.ListN.{length, drop}
 use denote.Ref.{RefT}
 use Rattle.wire.specs.BigEndian.{bigEndian, over}
-use Rattle.serial.specs.Serial.{ahead, distance, before, ordered, compared}
-use Rattle.serial.specs.Facts.{five-to-three, last-to-zero, zero-to-half}
+use Rattle.serial_model.specs.Serial.{ahead, distance, before, ordered, compared}
+use Rattle.serial_model.specs.Facts.{five-to-three, last-to-zero, zero-to-half}
 use Rattle.chunk.specs.Layout.{headerBytes}
 use Rattle.chunk_payload_data.specs.Layout.{dataValue}
 use Rattle.chunk_payload_data.specs.Data.{dataShown, dataRead, userData, dataFlags, dataSent, dataWritten}

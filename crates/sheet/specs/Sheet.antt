@@ -9,7 +9,7 @@ use lib.IntN.{pos}
 use lib.ListN.{length}
 use denote.Ref.{RefT}
 use Rattle.wire.specs.Refusal.{none, refuse, says, written}
-use Rattle.serial.specs.Serial.{distance}
+use Rattle.serial_model.specs.Serial.{distance}
 use Rattle.chunk_payload_data.specs.Data.{DataValues, noData, dataWritten}
 use Rattle.chunk_payload_data.specs.declared.ChunkPayloadData.{ChunkPayloadData}
 use Rattle.chunk_selective_ack.specs.Layout.{sack, block}

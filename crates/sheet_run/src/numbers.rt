@@ -2,10 +2,10 @@
 use crate::show;
 
 pub fn p1() {
-    shown(serial::tsn_distance(5, 3), -2, b"-2");
-    shown(serial::tsn_distance(4294967295, 0), 1, b"1");
+    shown(serial_distance::tsn_distance(5, 3), -2, b"-2");
+    shown(serial_distance::tsn_distance(4294967295, 0), 1, b"1");
     shown(
-        serial::tsn_distance(0, 2147483648),
+        serial_distance::tsn_distance(0, 2147483648),
         -2147483648,
         b"-2147483648",
     );

@@ -10,7 +10,7 @@ use native.Mathlib.Omega.{arith}
 use lib.ListN.{length, take, drop, length-append, length-map, take-append-drop}
 use lib.Seq.{length-take-le}
 use borrow.Author.Tests.{eq-eqb, ne-eqb, eqb-true}
-use Rattle.serial.specs.Serial.{next, atOrBefore}
+use Rattle.serial_model.specs.Serial.{next, atOrBefore}
 use Rattle.fragments.specs.Frag.{Frag, ssnOf, hasSsn}
 use Rattle.fragment_sets.specs.Sets.{complete, skipped}
 use Rattle.fragment_sets.proofs.Sets.{skipped-nil, skipped-cons}

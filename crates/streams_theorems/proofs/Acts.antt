@@ -10,7 +10,7 @@ use native.Mathlib.Omega.{arith}
 use lib.Dec.{ltb, eqb}
 use lib.ListN.{length}
 use Rattle.wire.specs.Refusal.{Refusal, none, refuse, says}
-use Rattle.serial.specs.Serial.{before}
+use Rattle.serial_model.specs.Serial.{before}
 use Rattle.fragments.specs.Frag.{Frag, ssnOf, hasTsn, tsnBefore}
 use Rattle.fragments.specs.Words.{size, any, placed}
 use Rattle.fragment_sets.specs.Sets.{setOf}

@@ -8,7 +8,7 @@ use native.Mathlib.Omega.{arith}
 use lib.ListN.{length}
 use Rattle.wire.specs.BigEndian.{over}
 use Rattle.wire.specs.Refusal.{none, says}
-use Rattle.serial.specs.Serial.{ahead, distance, before}
+use Rattle.serial_model.specs.Serial.{ahead, distance, before}
 use Rattle.chunk_payload_data.specs.Data.{dataFlags, dataSent}
 use Rattle.moves.specs.Lists.{slice, gone}
 use Rattle.fragments.specs.Words.{size, joined, any, while, past, find, placed}

@@ -10,7 +10,7 @@ use native.Mathlib.Omega.{arith}
 use borrow.Author.Tests.{eq-eqb}
 use lib.ListN.{length, getD, set, length-append, replicate, length-replicate, replicate-append-replicate}
 use Rattle.wire.specs.Refusal.{none, refuse, says}
-use Rattle.serial.specs.Serial.{ahead, distance, before}
+use Rattle.serial_model.specs.Serial.{ahead, distance, before}
 use Rattle.chunk_payload_data.specs.Data.{dataFlags, dataSent}
 use Rattle.moves.specs.Lists.{slice, gone}
 use Rattle.fragments.specs.Frag.{Frag}

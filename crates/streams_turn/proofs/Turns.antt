@@ -10,7 +10,7 @@ use native.Mathlib.Decide.{decLe}
 use lib.Dec.{ltb, eqb}
 use lib.ListN.{length, take, drop, length-append, length-drop, length-take}
 use lib.Seq.{take-append-seam, take-append-le, drop-append-add, drop-append-seam, take-take, take-all}
-use Rattle.serial.specs.Serial.{next, before}
+use Rattle.serial_model.specs.Serial.{next, before}
 use Rattle.moves.specs.Lists.{gone}
 use Rattle.fragments.specs.Frag.{Frag, ssnOf, hasSsn}
 use Rattle.fragments.specs.Words.{size, while, past}

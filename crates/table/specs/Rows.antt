@@ -5,7 +5,7 @@ use mathlib.Core.Bool.{Bool, false, _||_, cond}
 use mathlib.Core.List.{List, [], _∷_}
 use lib.Dec.{eqb}
 use lib.ListN.{take, drop}
-use Rattle.serial.specs.Serial.{before}
+use Rattle.serial_model.specs.Serial.{before}
 use Rattle.table.specs.declared.Row.{Row}
 
 abbrev pub row : ℕ → ℕ → ℕ → ℕ → Row

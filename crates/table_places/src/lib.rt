@@ -17,7 +17,7 @@ fn has_before(table: &[u32], size: usize, from: usize, n: usize, tsn: u32) -> bo
     let mut found = false;
     let mut i: usize = 0;
     while i < n {
-        let earlier = serial::sna32lt(table[tsns + i], tsn);
+        let earlier = serial_tsns::sna32lt(table[tsns + i], tsn);
         found = found | earlier;
         i += 1;
     }
@@ -34,7 +34,7 @@ pub fn walk_back(table: &[u32], size: usize, from: usize, n: usize, tsn: u32) ->
     let mut place = n;
     while 0 < place {
         let at = place - 1;
-        if serial::sna32lt(table[tsns + at], tsn) {
+        if serial_tsns::sna32lt(table[tsns + at], tsn) {
             return place;
         }
         place = at;
@@ -51,7 +51,7 @@ pub fn place_tsn(table: &[u32], size: usize, from: usize, n: usize, tsn: u32) ->
 {
     if 0 < n {
         let last = n - 1;
-        if serial::sna32lt(table[size + from + last], tsn) {
+        if serial_tsns::sna32lt(table[size + from + last], tsn) {
             return n;
         }
     }

@@ -7,7 +7,7 @@ use native.Mathlib.Omega.{arith}
 use lib.Dec.{eqb}
 use borrow.Author.Tests.{eq-eqb, ne-eqb}
 use borrow.Author.Needs.{needs}
-use Rattle.serial.specs.Serial.{next}
+use Rattle.serial_model.specs.Serial.{next}
 use Rattle.loose_fragments.proofs.Run.{Run, run-none, run-missed, run-last, run-on, run-all}
 use Rattle.loose_fragments.proofs.run_up.Statement.{statement}
 use Rattle.loose_fragments.proofs.run_up.Tie as tie

@@ -7,7 +7,7 @@ use Prim.Native.Nat.{ℕ, _^_, _<_, _≤_}
 use borrow.Author.Needs.{needs}
 use native.Mathlib.Omega.{arith}
 use lib.ListN.{length, length-take}
-use Rattle.serial.specs.Serial.{compared}
+use Rattle.serial_model.specs.Serial.{compared}
 use Rattle.serial_model.specs.declared.Order.the-variants.{Later}
 use Rattle.table.specs.Rows.{tsnBefore, shortLength}
 use Rattle.table.specs.declared.Row.{Row}

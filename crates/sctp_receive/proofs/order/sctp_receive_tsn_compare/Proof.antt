@@ -2,7 +2,7 @@
 -- Assumes nothing.
 use mathlib.Core.Path.{ap, _∙_}
 use borrow.Author.Needs.{needs}
-use Rattle.serial.specs.Serial.{orderNumber}
+use Rattle.serial_model.specs.Serial.{orderNumber}
 use Rattle.sctp_receive.proofs.order.sctp_receive_tsn_compare.Statement.{statement}
 use Rattle.sctp_receive.proofs.order.sctp_receive_tsn_compare.Tie as tie
 
