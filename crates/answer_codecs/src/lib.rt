@@ -1,7 +1,10 @@
-// The calls of numbers that wrap, and of headers, DATA, SACK and FORWARD TSN.
+// The calls of numbers that wrap, of headers, DATA, SACK and FORWARD TSN, of ERROR and ABORT, and of whole packets.
+mod causes;
 mod forward;
 mod numbers;
+mod packets;
 mod readers;
+mod walk;
 mod writers;
 
 use answer_text::answer;
@@ -10,9 +13,11 @@ use answer_text::out::SPACE;
 
 pub fn call(call: &[u8], out: &mut [u8; SPACE], at: usize) -> usize {
     match operands::u8_at(call, 0) {
-        1 | 2 | 3 | 4 | 67 | 68 => numbers::call(call, out, at),
-        7 | 10 | 11 | 54 => readers::part(call, out, at),
-        8 | 14 | 56 => writers::call(call, out, at),
+        1 | 2 | 3 | 4 => numbers::call(call, out, at),
+        7 | 10 | 11 | 54 | 62 => readers::part(call, out, at),
+        8 | 14 | 56 | 64 => writers::call(call, out, at),
+        63 => walk::walked(operands::raw(call), out, at),
+        65 | 66 => causes::call(call, out, at),
         _ => answer::write(readers::call(call), out, at),
     }
 }

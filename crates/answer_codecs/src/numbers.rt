@@ -1,5 +1,6 @@
 // The calls of numbers that wrap.
 use answer_text::answer;
+use answer_text::answer::Answer;
 use answer_text::operands;
 use answer_text::out;
 use answer_text::out::SPACE;
@@ -17,9 +18,7 @@ pub fn call(call: &[u8], out: &mut [u8; SPACE], at: usize) -> usize {
         1 => ordered(sna32(call), out, at),
         2 => ordered(sna16(call), out, at),
         3 => out::signed(out, at, tsn_distance(call)),
-        4 => out::signed(out, at, ssn_distance(call)),
-        67 => compared(tsn_compare(call), out, at),
-        _ => compared(ssn_compare(call), out, at),
+        _ => out::signed(out, at, ssn_distance(call)),
     }
 }
 
@@ -71,19 +70,19 @@ fn ssn_distance(call: &[u8]) -> i64 {
 }
 
 // The word of how a number stands to another.
-fn compared(order: serial_model::Order, out: &mut [u8; SPACE], at: usize) -> usize {
+pub fn compared(order: serial_model::Order) -> Answer {
     match order {
-        serial_model::Order::Earlier => out::text(out, at, b"earlier"),
-        serial_model::Order::Same => out::text(out, at, b"same"),
-        serial_model::Order::Later => out::text(out, at, b"later"),
-        serial_model::Order::Opposite => out::text(out, at, b"opposite"),
+        serial_model::Order::Earlier => answer::plain(answer::EARLIER),
+        serial_model::Order::Same => answer::plain(answer::SAME),
+        serial_model::Order::Later => answer::plain(answer::LATER),
+        serial_model::Order::Opposite => answer::plain(answer::OPPOSITE),
     }
 }
 
-fn tsn_compare(call: &[u8]) -> serial_model::Order {
+pub fn tsn_compare(call: &[u8]) -> serial_model::Order {
     serial_compare::tsn_compare(operands::u32_at(call, 1), operands::u32_at(call, 5))
 }
 
-fn ssn_compare(call: &[u8]) -> serial_model::Order {
+pub fn ssn_compare(call: &[u8]) -> serial_model::Order {
     serial_compare::ssn_compare(operands::u16_at(call, 1), operands::u16_at(call, 3))
 }

@@ -1,5 +1,7 @@
-// The calls of headers, DATA, SACK and FORWARD TSN that read.
+// The calls that read: headers, DATA, SACK, FORWARD TSN and packets; and the comparisons.
 use crate::forward;
+use crate::numbers;
+use crate::packets;
 use answer_text::answer;
 use answer_text::answer::Answer;
 use answer_text::operands;
@@ -11,33 +13,41 @@ use chunk_selective_ack::GapAckBlockAt;
 
 pub fn call(call: &[u8]) -> Answer {
     let raw = operands::raw(call);
+    let i = operands::index(call);
     match operands::u8_at(call, 0) {
         5 => header(raw),
         6 => data_chunk(raw),
-        12 => block_at(raw, operands::index(call)),
-        13 => duplicate_at(raw, operands::index(call)),
+        12 => block_at(raw, i),
+        13 => duplicate_at(raw, i),
         53 => forward::unmarshal(raw),
-        55 => forward::stream_at(raw, operands::index(call)),
+        55 => forward::stream_at(raw, i),
+        59 => answer::one(answer::NUMBER, crc32c::crc32c(raw) as u64),
+        60 => packets::header(raw),
+        61 => packets::chunk_at(raw, i),
+        67 => numbers::compared(numbers::tsn_compare(call)),
+        68 => numbers::compared(numbers::ssn_compare(call)),
         _ => sack(raw),
     }
 }
 
 // Those that answer with a part of the bytes.
 pub fn part(call: &[u8], out: &mut [u8; SPACE], at: usize) -> usize {
-    let mut refusal: u8 = 0;
-    let part = part_of(operands::raw(call), operands::u8_at(call, 0), &mut refusal);
+    let mut refusal: u8 = chunk::ACCEPTED;
+    let part = part_of(call, &mut refusal);
     if refusal != chunk::ACCEPTED {
         return answer::write(answer::refused(refusal), out, at);
     }
-    let at = answer::write(answer::plain(answer::PART), out, at);
+    let at = answer::word(answer::PART, out, at);
     out::bytes(out, at, part)
 }
 
-fn part_of<'a>(raw: &'a [u8], call: u8, refusal: &mut u8) -> &'a [u8] {
-    match call {
+fn part_of<'a>(call: &'a [u8], refusal: &mut u8) -> &'a [u8] {
+    let raw = operands::raw(call);
+    match operands::u8_at(call, 0) {
         7 => chunk_payload_data::user_data(raw, refusal),
         10 => chunk_selective_ack::gap_ack_blocks(raw, refusal),
         11 => chunk_selective_ack::duplicate_tsns(raw, refusal),
+        62 => packet_walker::bytes_at(raw, operands::index(call)),
         _ => chunk_forward_tsn::streams(raw, refusal),
     }
 }

@@ -1,5 +1,6 @@
-// The calls that write DATA, SACK and FORWARD TSN into a lent buffer.
+// The calls that write DATA, SACK, FORWARD TSN and packets into a lent buffer.
 use crate::forward;
+use crate::packets;
 use answer_text::answer;
 use answer_text::answer::Answer;
 use answer_text::form;
@@ -8,31 +9,22 @@ use answer_text::operands;
 use answer_text::operands::BYTES;
 use answer_text::operands::NUMBERS;
 use answer_text::out;
-use answer_text::out::LINES;
 use answer_text::out::SPACE;
 
 // All bytes of the room that the call says are shown behind the answer.
 pub fn call(call: &[u8], out: &mut [u8; SPACE], at: usize) -> usize {
-    let room = operands::most(operands::size_at(call, 1), BYTES);
-    lists::fill_room(out, room, operands::u8_at(call, 5));
-    let told = lent(call, out, LINES + room);
+    let mut room = [operands::u8_at(call, 5); BYTES];
+    let n = operands::most(operands::size_at(call, 1), BYTES);
+    let told = marshal(call, &mut room[0..n]);
     let at = answer::write(told, out, at);
-    out::room(out, at, room)
-}
-
-// The room, up to where it ends.
-fn lent(call: &[u8], out: &mut [u8], end: usize) -> Answer {
-    let end = operands::most(end, out.len());
-    if end < LINES {
-        return answer::refused(0);
-    }
-    marshal(call, &mut out[LINES..end])
+    out::room(out, at, &room, n)
 }
 
 fn marshal(call: &[u8], room: &mut [u8]) -> Answer {
     match operands::u8_at(call, 0) {
         8 => data_marshal(call, room),
         56 => forward::marshal(call, room),
+        64 => packets::marshal(call, room),
         _ => sack_marshal(call, room),
     }
 }

@@ -1,47 +1,35 @@
-// The calls of the reassembly queue; those of the message in hand stand in crate `answer_hand`.
+// The calls of the reassembly queue and of the message in hand.
 mod calls;
-mod forge;
+mod hand;
 pub mod kept;
 mod shown;
 mod taken;
 
-use answer_text::answer;
-use answer_text::kept::KEPT;
 use answer_text::operands;
 use answer_text::operands::BYTES;
 use answer_text::out::SPACE;
-pub use calls::done;
-pub use calls::lent;
+pub use calls::forwarded;
+use kept::Kept;
 use kept::POOL;
+use kept::Turn;
 use reassembly_queue::WORDS;
 
 pub fn call(
-    state: &mut [u64; KEPT],
+    kept: Kept,
     call: &[u8],
     table: &mut [u32; WORDS],
     pool: &mut [u8; POOL],
     buffer: &mut [u8; BYTES],
     out: &mut [u8; SPACE],
     at: usize,
-) -> usize {
+) -> Turn {
     match operands::u8_at(call, 0) {
-        35 => taken::read(state, call, table, pool, buffer, out, at),
-        48..=52 => answer_hand::call(state, call, buffer, out, at),
-        _ => queue(state, call, table, pool, out, at),
-    }
-}
-
-fn queue(
-    state: &mut [u64; KEPT],
-    call: &[u8],
-    table: &mut [u32; WORDS],
-    pool: &mut [u8; POOL],
-    out: &mut [u8; SPACE],
-    at: usize,
-) -> usize {
-    match operands::u8_at(call, 0) {
-        33 => answer::write(calls::push(state, call, table, pool, out), out, at),
-        39 => shown::stands(kept::queue(state), table, pool, out, at),
-        _ => answer::write(calls::told(state, call, table, pool), out, at),
+        35 => taken::read(kept, call, table, pool, buffer, out, at),
+        39 => Turn {
+            kept,
+            at: shown::stands(kept, table, pool, out, at),
+        },
+        48..=52 => hand::call(kept, call, buffer, out, at),
+        _ => kept::written(calls::answered(kept, call, table, pool), out, at),
     }
 }

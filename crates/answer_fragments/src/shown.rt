@@ -1,4 +1,5 @@
 // The reassembly queue as it stands: its own numbers, its records, and their data.
+use crate::kept::Kept;
 use crate::kept::POOL;
 use answer_text::answer;
 use answer_text::answer::Answer;
@@ -11,12 +12,13 @@ use reassembly_queue::ReassemblyQueue;
 use reassembly_queue::WORDS;
 
 pub fn stands(
-    queue: ReassemblyQueue,
+    kept: Kept,
     table: &[u32; WORDS],
     pool: &[u8; POOL],
     out: &mut [u8; SPACE],
     at: usize,
 ) -> usize {
+    let queue = kept.queue;
     let at = answer::write(numbers(queue), out, at);
     records(queue, out, at, table, pool)
 }
@@ -41,11 +43,11 @@ fn records(
     let mut i: usize = 0;
     while i < FRAGMENTS {
         let kind = kind_of(queue, i);
-        if kind == b'-' {
+        if kind == answer::UNSHOWN {
             return at;
         }
         let to = end_of(from, table[i]);
-        at = record(out, at, kind, table, i);
+        at = answer::write(record(kind, table, i), out, at);
         at = out::bytes(out, at, operands::part(pool, from, to));
         from = to;
         i += 1;
@@ -53,19 +55,19 @@ fn records(
     at
 }
 
-// Of a finished message, loose, or of an ordered set; a dash where the queue holds no such record.
+// Of a finished message, loose, or of an ordered set; unshown where the queue holds no such record.
 fn kind_of(queue: ReassemblyQueue, i: usize) -> u8 {
     if i < queue.finished {
-        return b'f';
+        return answer::FINISHED;
     }
     let i = i - queue.finished;
     if i < queue.unordered {
-        return b'u';
+        return answer::LOOSE;
     }
     if i - queue.unordered < queue.ordered {
-        return b'o';
+        return answer::ORDERED;
     }
-    b'-'
+    answer::UNSHOWN
 }
 
 // Where data of the length that a record's first word says ends, from a place on; at the end of the pool at most.
@@ -74,19 +76,12 @@ fn end_of(from: usize, head: u32) -> usize {
     operands::most(std::num::wrapping_add_usize(from, length), POOL)
 }
 
-fn record(out: &mut [u8; SPACE], at: usize, kind: u8, table: &[u32; WORDS], i: usize) -> usize {
-    let at = answer::bar(out, at);
-    let at = out::byte(out, at, b' ');
-    let at = out::byte(out, at, kind);
-    answer::write_fields(fields(table, i), out, at)
-}
-
-fn fields(table: &[u32; WORDS], i: usize) -> Answer {
+fn record(kind: u8, table: &[u32; WORDS], i: usize) -> Answer {
     let i = i % FRAGMENTS;
     let tsn = table[FRAGMENTS + i];
     let id = table[2 * FRAGMENTS + i];
     let chunk = operands::record(table[i], tsn, id, table[3 * FRAGMENTS + i]);
-    answer::fields(answer::CHUNK, 4, chunk, 0)
+    answer::fields(kind, 4, chunk, 0)
 }
 
 pub fn whole(queue: ReassemblyQueue, table: &[u32; WORDS], pool: &[u8; POOL]) -> Answer {

@@ -1,9 +1,12 @@
 // What a call answers, before it is written: a word, the flags of a chunk, and numbers.
+use crate::lists;
+use crate::operands::NUMBERS;
 use crate::out;
 use crate::out::SPACE;
 use chunk::Marshalled;
 use chunk_payload_data::ChunkPayloadData;
 
+// The flags are a word too.
 pub struct Answer {
     pub word: u8,
     pub flags: u8,
@@ -11,7 +14,7 @@ pub struct Answer {
     pub numbers: [u64; 5],
 }
 
-// The words, each in its WIDTH bytes of WORDS.
+// The words, each in its WIDTH bytes of WORDS. UNSHOWN is the one of no letters; those that follow stand behind others, a space or a bar in front.
 pub const YES: u8 = 0;
 
 pub const NO: u8 = 1;
@@ -68,18 +71,48 @@ pub const CAUSES: u8 = 26;
 
 pub const SENT: u8 = 27;
 
+pub const EARLIER: u8 = 28;
+
+pub const SAME: u8 = 29;
+
+pub const LATER: u8 = 30;
+
+pub const OPPOSITE: u8 = 31;
+
+pub const MALFORMED: u8 = 32;
+
+pub const UNSHOWN: u8 = 33;
+
+pub const RECORD: u8 = 34;
+
+pub const FINISHED: u8 = 35;
+
+pub const LOOSE: u8 = 36;
+
+pub const ORDERED: u8 = 37;
+
+pub const STARTS: u8 = 38;
+
+pub const ENDS: u8 = 39;
+
+pub const CODES: u8 = 40;
+
+pub const DEPTHS: u8 = 41;
+
+pub const SIZES: u8 = 42;
+
+// The first of the sets of flags, and of marks, each set in the order of its number.
+pub const FLAGS: u8 = 43;
+
+pub const MARKS: u8 = 59;
+
+const ALL: u8 = 67;
+
 // So many bytes, of which those from a low line on are none of the word.
 const WIDTH: usize = 15;
 
-const WORDS: [u8; 420] =
-    *b"yes____________no_____________done___________none___________refused________number_________tsn____________header_________data___________part___________wrote__________sack___________block__________chunk__________log____________blocks_________held___________whole__________message________piece__________queue__________forward________stream_________nothing in handpacket_________walk___________causes_________sent___________";
-
-// The letters of the flags, a space in front, each set of them in its five bytes.
-const LETTERS: [u8; 80] =
-    *b" -___ E___ B___ BE__ U___ UE__ UB__ UBE_ I___ EI__ BI__ BEI_ UI__ UEI_ UBI_ UBEI";
-
-// Stands for the flags where an answer has none to show.
-const UNSHOWN: u8 = 255;
+const WORDS: [u8; 1005] =
+    *b"yes____________no_____________done___________none___________refused________number_________tsn____________header_________data___________part___________wrote__________sack___________block__________chunk__________log____________blocks_________held___________whole__________message________piece__________queue__________forward________stream_________nothing in handpacket_________walk___________causes_________sent___________earlier________same___________later__________opposite_______malformed call________________ |_____________ | f___________ | u___________ | o___________ starts________ ends__________ codes_________ depths________ sizes_________ -_____________ E_____________ B_____________ BE____________ U_____________ UE____________ UB____________ UBE___________ I_____________ EI____________ BI____________ BEI___________ UI____________ UEI___________ UBI___________ UBEI__________ -_____________ A_____________ X_____________ AX____________ R_____________ AR____________ XR____________ AXR___________";
 
 pub fn five(word: u8, count: u8, a: u64, b: u64, c: u64, d: u64, e: u64) -> Answer {
     Answer {
@@ -120,41 +153,27 @@ pub fn fields(word: u8, count: u8, f: ChunkPayloadData, size: u64) -> Answer {
     let stream = f.stream_identifier as u64;
     let ssn = f.stream_sequence_number as u64;
     let mut told = five(word, count, f.tsn as u64, stream, ssn, identifier, size);
-    told.flags = chunk_payload_data::flags_of(f);
+    told.flags = std::num::wrapping_add_u8(FLAGS, chunk_payload_data::flags_of(f));
     told
 }
 
 // Onto the line.
 pub fn write(told: Answer, out: &mut [u8; SPACE], at: usize) -> usize {
-    let at = word(told.word, out, at);
-    write_fields(told, out, at)
-}
-
-// The flags and the numbers alone.
-pub fn write_fields(told: Answer, out: &mut [u8; SPACE], at: usize) -> usize {
     let numbers = told.numbers;
-    let at = flags(told.flags, out, at);
+    let at = word(told.word, out, at);
+    let at = word(told.flags, out, at);
     out::longs(out, at, &numbers, told.count)
 }
 
-// Ahead of a record.
-pub fn bar(out: &mut [u8; SPACE], at: usize) -> usize {
-    let at = out::byte(out, at, b' ');
-    out::byte(out, at, b'|')
-}
-
-fn word(w: u8, out: &mut [u8; SPACE], at: usize) -> usize {
+// A word alone.
+pub fn word(w: u8, out: &mut [u8; SPACE], at: usize) -> usize {
     let words = WORDS;
-    let from = WIDTH * (w % 28) as usize;
+    let from = WIDTH * (w % ALL) as usize;
     out::text(out, at, out::trimmed(&words, from, from + WIDTH))
 }
 
-// All of 0 to 15; the others are not shown.
-fn flags(f: u8, out: &mut [u8; SPACE], at: usize) -> usize {
-    if 16 <= f {
-        return at;
-    }
-    let letters = LETTERS;
-    let from = 5 * f as usize;
-    out::text(out, at, out::trimmed(&letters, from, from + 5))
+// The first n numbers of a list, behind its name.
+pub fn list(name: u8, list: &[u16; NUMBERS], n: usize, out: &mut [u8; SPACE], at: usize) -> usize {
+    let at = word(name, out, at);
+    out::shorts(out, at, lists::first_shorts(list, n))
 }

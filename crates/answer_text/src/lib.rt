@@ -2,7 +2,6 @@
 pub mod answer;
 pub mod digest;
 pub mod form;
-pub mod kept;
 pub mod lists;
 pub mod operands;
 pub mod out;

@@ -1,21 +1,96 @@
-// The operands of a call (crate `answer_operands`), handed on; and the chunks that stand in them or in a table's words.
-pub use answer_operands::operands::BYTES;
-pub use answer_operands::operands::CAUSES;
-pub use answer_operands::operands::NUMBERS;
-pub use answer_operands::operands::behind;
-pub use answer_operands::operands::behind_raw;
-pub use answer_operands::operands::count_at;
-pub use answer_operands::operands::first;
-pub use answer_operands::operands::index;
-pub use answer_operands::operands::most;
-pub use answer_operands::operands::part;
-pub use answer_operands::operands::raw;
-pub use answer_operands::operands::size_at;
-pub use answer_operands::operands::u8_at;
-pub use answer_operands::operands::u16_at;
-pub use answer_operands::operands::u32_at;
-pub use answer_operands::operands::u64_at;
+// The operands of a call: numbers, big-endian, at a place of it; 0 where they are not all there; and the chunks that stand in them or in a table's words.
+ghost use Prim.Native.Nat.{_≤_};
 use chunk_payload_data::ChunkPayloadData;
+
+// The most bytes of a raw, of patterned data, or of a lent buffer.
+pub const BYTES: usize = 65600;
+
+// The most numbers of a list, lent or given.
+pub const NUMBERS: usize = 16400;
+
+// The most places of a lent list of causes, of which a line has four.
+pub const CAUSES: usize = 10000;
+
+pub fn u8_at(s: &[u8], at: usize) -> u8 {
+    if at < s.len() { s[at] } else { 0 }
+}
+
+pub fn u16_at(s: &[u8], at: usize) -> u16 {
+    if s.len() < 2 {
+        return 0;
+    }
+    if s.len() - 2 < at {
+        return 0;
+    }
+    wire::get_u16(s, at)
+}
+
+pub fn u32_at(s: &[u8], at: usize) -> u32 {
+    if s.len() < 4 {
+        return 0;
+    }
+    if s.len() - 4 < at {
+        return 0;
+    }
+    wire::get_u32(s, at)
+}
+
+pub fn u64_at(s: &[u8], at: usize) -> u64 {
+    let high = u32_at(s, at);
+    let low = u32_at(s, std::num::wrapping_add_usize(at, 4));
+    (high as u64) * 4294967296 + low as u64
+}
+
+// How many bytes: a number of 32 bits.
+pub fn size_at(s: &[u8], at: usize) -> usize {
+    u32_at(s, at) as usize
+}
+
+// How many numbers: one of 16 bits.
+pub fn count_at(s: &[u8], at: usize) -> usize {
+    u16_at(s, at) as usize
+}
+
+// From one place up to another; nothing where that is no part.
+pub fn part(s: &[u8], from: usize, to: usize) -> &[u8] {
+    if to <= s.len() {
+        if from <= to {
+            return &s[from..to];
+        }
+    }
+    &s[0..0]
+}
+
+// The first n; all where there are fewer.
+pub fn first(s: &[u8], n: usize) -> &[u8] {
+    if n <= s.len() { &s[0..n] } else { s }
+}
+
+// The smaller of a number and a limit.
+pub fn most(n: usize, limit: usize) -> usize
+    ensures { λ r. ⌜ r ≤ limit ⌝ }
+{
+    if n < limit { n } else { limit }
+}
+
+// The bytes of a raw that is the call's first operand.
+pub fn raw(call: &[u8]) -> &[u8] {
+    part(call, 5, std::num::wrapping_add_usize(5, size_at(call, 1)))
+}
+
+// What stands behind that raw.
+pub fn behind_raw(call: &[u8]) -> &[u8] {
+    part(
+        call,
+        std::num::wrapping_add_usize(5, size_at(call, 1)),
+        call.len(),
+    )
+}
+
+// The number there.
+pub fn index(call: &[u8]) -> usize {
+    u64_at(behind_raw(call), 0) as usize
+}
 
 // The fields of a chunk that stand in front.
 pub fn fields(s: &[u8]) -> ChunkPayloadData {

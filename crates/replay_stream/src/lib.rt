@@ -2,7 +2,6 @@
 // it and taken from it.
 use answer_text::operands;
 use answer_text::out;
-use answer_text::out::LINES;
 use answer_text::out::SPACE;
 use input::View;
 use input::WINDOW;
@@ -59,7 +58,7 @@ fn records(
 // The first bytes of the line, behind those that wait to be written; these are written where little room is left.
 fn put(out: &mut [u8; SPACE], at: usize, line: &[u8; LINE], n: usize) -> usize {
     let mut at = at;
-    if LINES - LINE < at {
+    if SPACE - LINE < at {
         flush(out, at);
         at = 0;
     }

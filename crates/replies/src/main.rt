@@ -1,28 +1,31 @@
 // Reads calls from standard input, does each on the proved libraries, and writes one line for it: docs/CALLS.md.
+mod calls;
+mod forward;
+
 use answer_fragments::kept::POOL;
+use answer_text::answer;
 use answer_text::form;
-use answer_text::kept::KEPT;
 use answer_text::operands;
 use answer_text::operands::BYTES;
 use answer_text::out;
 use answer_text::out::LINE;
-use answer_text::out::LINES;
 use answer_text::out::SPACE;
 use input::View;
 use input::WINDOW;
 use libc::STDOUT_FILENO;
 
 fn main() {
-    let mut state = [0u64; KEPT];
+    let mut window = [0u8; WINDOW];
+    let mut out = [0u8; SPACE];
     let mut tsns = [0u32; payload_queue::WORDS];
     let mut flight = [0u32; inflight_queue::WORDS];
     let mut messages = [0u64; inflight_queue::TSNS];
     let mut table = [0u32; reassembly_queue::WORDS];
     let mut pool = [0u8; POOL];
     let mut buffer = [0u8; BYTES];
-    answers::fresh(&mut state);
     stream(
-        &mut state,
+        &mut window,
+        &mut out,
         &mut tsns,
         &mut flight,
         &mut messages,
@@ -32,35 +35,10 @@ fn main() {
     );
 }
 
-fn stream(
-    state: &mut [u64; KEPT],
-    tsns: &mut [u32; payload_queue::WORDS],
-    flight: &mut [u32; inflight_queue::WORDS],
-    messages: &mut [u64; inflight_queue::TSNS],
-    table: &mut [u32; reassembly_queue::WORDS],
-    pool: &mut [u8; POOL],
-    buffer: &mut [u8; BYTES],
-) {
-    let mut window = [0u8; WINDOW];
-    let mut out = [0u8; SPACE];
-    calls(
-        &mut window,
-        &mut out,
-        state,
-        tsns,
-        flight,
-        messages,
-        table,
-        pool,
-        buffer,
-    );
-}
-
 // One call after the other, up to the end of the stream.
-fn calls(
+fn stream(
     window: &mut [u8; WINDOW],
     out: &mut [u8; SPACE],
-    state: &mut [u64; KEPT],
     tsns: &mut [u32; payload_queue::WORDS],
     flight: &mut [u32; inflight_queue::WORDS],
     messages: &mut [u64; inflight_queue::TSNS],
@@ -71,6 +49,7 @@ fn calls(
     let mut at: usize = 0;
     let mut view = input::unread();
     let mut number: u64 = 1;
+    let mut kept = calls::fresh();
     loop {
         view = next(window, view);
         if view.size == 0 {
@@ -78,8 +57,8 @@ fn calls(
             return;
         }
         let call = input::call(window, view);
-        at = answers::answered(
-            state,
+        let turn = calls::answered(
+            kept,
             call,
             tsns,
             flight,
@@ -90,7 +69,9 @@ fn calls(
             out,
             at,
         );
-        at = roomy(out, at);
+        let after = turn.kept;
+        kept = after;
+        at = roomy(out, turn.at);
         if u64::MAX <= number {
             return;
         }
@@ -117,19 +98,14 @@ fn end(window: &[u8; WINDOW], view: View, number: u64, out: &mut [u8; SPACE], at
         flush(out, at);
         return;
     }
-    let at = malformed(out, at, number);
+    let at = answer::write(answer::one(answer::MALFORMED, number), out, at);
+    let at = out::byte(out, at, b'\n');
     flush(out, at);
-}
-
-fn malformed(out: &mut [u8; SPACE], at: usize, number: u64) -> usize {
-    let at = out::text(out, at, b"malformed call");
-    let at = out::word(out, at, number);
-    out::byte(out, at, b'\n')
 }
 
 // Where little room is left, what was answered is written out.
 fn roomy(out: &[u8; SPACE], at: usize) -> usize {
-    if at <= LINES - LINE {
+    if at <= SPACE - LINE {
         return at;
     }
     flush(out, at);
