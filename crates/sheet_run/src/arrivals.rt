@@ -1,14 +1,13 @@
 // Reassembly: fragments of one stream arrive.
 use crate::show;
 use chunk_payload_data::ChunkPayloadData;
-use chunks::Chunks;
 use reassembly_queue::BYTES;
 use reassembly_queue::ReassemblyQueue;
 use reassembly_queue::Took;
 use reassembly_queue::WORDS;
 
 // The fields of a fragment of stream 0: ordered, or unordered with SSN 0.
-fn ordered(b: bool, e: bool, tsn: u32, ssn: u16) -> ChunkPayloadData {
+pub fn ordered(b: bool, e: bool, tsn: u32, ssn: u16) -> ChunkPayloadData {
     ChunkPayloadData {
         unordered: false,
         beginning_fragment: b,
@@ -89,12 +88,11 @@ fn take(
     match answer {
         Took::Refused(k) => show::refused(k),
         Took::Nothing => show::word(b"none"),
-        Took::Message(m) => message(m, &buffer, queue.ordered),
+        Took::Message(m) => {
+            show::number(queue.ordered as u64);
+            show::text();
+            print::quoted(print::first(&buffer, m.size));
+        }
     }
     taken.queue
-}
-
-fn message(m: Chunks, buffer: &[u8], fragments: usize) {
-    show::number(fragments as u64);
-    show::quoted(print::first(buffer, m.size));
 }

@@ -1,29 +1,22 @@
 // DATA: P2 is written and what was written is read; P3 is P2 with another identifier, P4 with another length.
+use crate::arrivals;
 use crate::show;
 use chunk::Marshalled;
 use chunk_payload_data::ChunkPayloadData;
 use chunk_payload_data::Unmarshalled;
 
-fn fields(identifier: u32) -> ChunkPayloadData {
-    ChunkPayloadData {
-        unordered: false,
-        beginning_fragment: true,
-        ending_fragment: true,
-        immediate_sack: false,
-        tsn: 10,
-        stream_identifier: 2,
-        stream_sequence_number: 5,
-        payload_type: identifier,
-    }
-}
-
 pub fn p2() {
     let mut out = [0u8; 19];
-    let answer = chunk_payload_data::marshal_to(&mut out, fields(51), b"abc");
+    let mut fields = arrivals::ordered(true, true, 10, 5);
+    fields.stream_identifier = 2;
+    let answer = chunk_payload_data::marshal_to(&mut out, fields, b"abc");
     read(&out);
     match answer {
         Marshalled::Refused(k) => show::refused(k),
-        Marshalled::Bytes(n) => show::bytes(print::first(&out, n)),
+        Marshalled::Bytes(n) => {
+            show::text();
+            print::bytes(print::first(&out, n));
+        }
     }
 }
 
@@ -34,24 +27,21 @@ fn read(raw: &[u8]) {
         Unmarshalled::Fields(f) => {
             let mut refusal: u8 = 0;
             let user = chunk_payload_data::user_data(raw, &mut refusal);
-            flags(f);
-            numbers(f);
-            show::quoted(user);
+            fields(f);
+            show::text();
+            print::quoted(user);
         }
     }
 }
 
-// U, B and E, by their bits 4, 2 and 1.
-fn flags(f: ChunkPayloadData) {
+// U, B and E, by their bits 4, 2 and 1; then the numbers.
+fn fields(f: ChunkPayloadData) {
     let bits = chunk_payload_data::flags_of(f) % 8;
     show::text();
     print::one_of(
         b"|E|B and |B and E|U and |U and E|U and B and |U and B and E",
         bits as usize,
     );
-}
-
-fn numbers(f: ChunkPayloadData) {
     show::number(f.tsn as u64);
     show::number(f.stream_identifier as u64);
     show::number(f.stream_sequence_number as u64);
@@ -60,7 +50,10 @@ fn numbers(f: ChunkPayloadData) {
 
 pub fn p3() {
     let mut out = [0u8; 19];
-    chunk_payload_data::marshal_to(&mut out, fields(7), b"abc");
+    let mut fields = arrivals::ordered(true, true, 10, 5);
+    fields.stream_identifier = 2;
+    fields.payload_type = 7;
+    chunk_payload_data::marshal_to(&mut out, fields, b"abc");
     identifier(b"\x00\x03\x00\x13\x00\x00\x00\x0A\x00\x02\x00\x05\x00\x00\x00\x07abc");
     identifier(&out);
 }
@@ -74,13 +67,8 @@ fn identifier(raw: &[u8]) {
     }
 }
 
-pub fn p4() {
-    of_length(15);
-    of_length(16);
-}
-
 // P2's bytes with this length: the refusal, if fields and user data are refused alike; or that it is accepted.
-fn of_length(size: u8) {
+pub fn p4(size: u8) {
     let mut raw = *b"\x00\x03\x00\x13\x00\x00\x00\x0A\x00\x02\x00\x05\x00\x00\x00\x33";
     raw[3] = size;
     let mut refusal: u8 = 0;

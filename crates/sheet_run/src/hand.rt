@@ -16,30 +16,25 @@ fn message(size: usize) -> Chunks {
 }
 
 pub fn p12() {
-    pieces(message(10), b"1234567890", 4);
-    pieces(message(0), b"", 2);
+    pieces(10, b"1234567890", 4);
+    pieces(0, b"", 2);
 }
 
-// The next n pieces of at most four bytes.
-fn pieces(m: Chunks, buffer: &[u8], n: usize) {
-    let mut m = m;
+// Prints how long the next n pieces of at most four bytes are.
+fn pieces(size: usize, buffer: &[u8], n: usize) {
+    let mut m = message(size);
     let mut i: usize = 0;
     while i < n {
-        m = piece(m, buffer, 4);
+        let next = m.next(buffer, 4);
+        m = next.message;
         i += 1;
+        let answer = next.answer;
+        match answer {
+            Piece::Refused(k) => show::refused(k),
+            Piece::Nothing => show::word(b"none"),
+            Piece::At(part) => length(part.size),
+        }
     }
-}
-
-// Prints how long the next piece is.
-fn piece(m: Chunks, buffer: &[u8], most: usize) -> Chunks {
-    let next = m.next(buffer, most);
-    let answer = next.answer;
-    match answer {
-        Piece::Refused(k) => show::refused(k),
-        Piece::Nothing => show::word(b"none"),
-        Piece::At(part) => length(part.size),
-    }
-    next.message
 }
 
 fn length(n: usize) {
@@ -54,7 +49,8 @@ pub fn short_buffer() {
     let mut out = [0u8; 4];
     let m = message(6);
     let answer = m.read(b"abcdef", &mut out);
-    show::quoted(&out);
+    show::text();
+    print::quoted(&out);
     match answer {
         Number::Refused(k) => show::refused(k),
         Number::Is(n) => show::number(n as u64),

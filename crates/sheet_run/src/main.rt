@@ -13,11 +13,12 @@ fn main() {
     numbers::p1();
     data_chunk::p2();
     data_chunk::p3();
-    data_chunk::p4();
+    data_chunk::p4(15);
+    data_chunk::p4(16);
     sack_chunk::p5();
-    queued::p6();
-    queued::p7();
-    queued::p8();
+    queued::report(102, 103, 105, 100);
+    queued::report(4294967295, 0, 2, 4294967294);
+    queued::report(65534, 65535, 65536, 0);
     arrivals::p9();
     arrivals::p10();
     arrivals::p11();

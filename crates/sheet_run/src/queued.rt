@@ -1,43 +1,24 @@
 // The gap report of three TSNs.
+use crate::arrivals;
 use crate::show;
-use chunk_payload_data::ChunkPayloadData;
 use payload_queue::Flag;
 use payload_queue::Number;
 use payload_queue::PayloadQueue;
 use payload_queue::WORDS;
 
-pub fn p6() {
-    report([102, 103, 105], 100);
-}
-
-pub fn p7() {
-    report([4294967295, 0, 2], 4294967294);
-}
-
-pub fn p8() {
-    report([65534, 65535, 65536], 0);
-}
-
-fn report(tsns: [u32; 3], cumulative: u32) {
+// P6 to P8: these are queued, and what the report over this cumulative TSN says.
+pub fn report(a: u32, b: u32, c: u32, cumulative: u32) {
     let mut table = [0u32; WORDS];
     let mut starts = [0u16; 2];
     let mut ends = [0u16; 2];
-    let queue = queue_all(&mut table, tsns, cumulative);
+    let queue = queue_up(PayloadQueue::new(), &mut table, a, cumulative);
+    let queue = queue_up(queue, &mut table, b, cumulative);
+    let queue = queue_up(queue, &mut table, c, cumulative);
     let answer = queue.get_gap_ack_blocks(&table, cumulative, &mut starts, &mut ends);
     match answer {
         Number::Refused(k) => show::refused(k),
         Number::Is(n) => blocks(starts, ends, n),
     }
-}
-
-fn queue_all(table: &mut [u32; WORDS], tsns: [u32; 3], cumulative: u32) -> PayloadQueue {
-    let mut queue = PayloadQueue::new();
-    let mut i: usize = 0;
-    while i < 3 {
-        queue = queue_up(queue, table, tsns[i], cumulative);
-        i += 1;
-    }
-    queue
 }
 
 // Pushes a TSN, and prints it where it is stored.
@@ -47,7 +28,7 @@ fn queue_up(
     tsn: u32,
     cumulative: u32,
 ) -> PayloadQueue {
-    let pushed = queue.push(table, whole(tsn), 1, cumulative);
+    let pushed = queue.push(table, arrivals::ordered(true, true, tsn, 0), 1, cumulative);
     let answer = pushed.answer;
     match answer {
         Flag::Refused(k) => show::refused(k),
@@ -58,19 +39,6 @@ fn queue_up(
         }
     }
     pushed.queue
-}
-
-fn whole(tsn: u32) -> ChunkPayloadData {
-    ChunkPayloadData {
-        unordered: false,
-        beginning_fragment: true,
-        ending_fragment: true,
-        immediate_sack: false,
-        tsn,
-        stream_identifier: 0,
-        stream_sequence_number: 0,
-        payload_type: 51,
-    }
 }
 
 fn blocks(starts: [u16; 2], ends: [u16; 2], n: usize) {

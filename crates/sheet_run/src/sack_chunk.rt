@@ -14,7 +14,10 @@ pub fn p5() {
     read(&out);
     match answer {
         Marshalled::Refused(k) => show::refused(k),
-        Marshalled::Bytes(n) => show::bytes(print::first(&out, n)),
+        Marshalled::Bytes(n) => {
+            show::text();
+            print::bytes(print::first(&out, n));
+        }
     }
 }
 
@@ -25,18 +28,14 @@ fn read(raw: &[u8]) {
         Unmarshalled::Fields(f) => {
             show::number(f.cumulative_tsn_ack as u64);
             show::number(f.advertised_receiver_window_credit as u64);
-            lists(raw);
+            let mut refusal: u8 = 0;
+            let blocks = chunk_selective_ack::gap_ack_blocks(raw, &mut refusal);
+            block(blocks, 0);
+            block(blocks, 1);
+            let tsns = chunk_selective_ack::duplicate_tsns(raw, &mut refusal);
+            duplicate(tsns, 0);
         }
     }
-}
-
-fn lists(raw: &[u8]) {
-    let mut refusal: u8 = 0;
-    let blocks = chunk_selective_ack::gap_ack_blocks(raw, &mut refusal);
-    block(blocks, 0);
-    block(blocks, 1);
-    let tsns = chunk_selective_ack::duplicate_tsns(raw, &mut refusal);
-    duplicate(tsns, 0);
 }
 
 fn block(part: &[u8], i: usize) {

@@ -5,26 +5,18 @@ use libc::STDIN_FILENO;
 // No text between two blanks is longer.
 const LONGEST: usize = 200;
 
-// The text up to the next blank.
+// The text up to the next blank, or to its end.
 pub fn text() {
     let mut i: usize = 0;
     while i < LONGEST {
-        if blank() {
+        let mut one = [b'%'; 1];
+        io::read_full(STDIN_FILENO, &mut one);
+        if one[0] == b'%' {
             return;
         }
+        print::text(&one);
         i += 1;
     }
-}
-
-// Whether a blank comes next, or nothing; else the next letter goes out.
-fn blank() -> bool {
-    let mut one = [b'%'; 1];
-    io::read_full(STDIN_FILENO, &mut one);
-    if one[0] == b'%' {
-        return true;
-    }
-    print::text(&one);
-    false
 }
 
 pub fn word(s: &[u8]) {
@@ -35,16 +27,6 @@ pub fn word(s: &[u8]) {
 pub fn number(n: u64) {
     text();
     print::number(n);
-}
-
-pub fn bytes(s: &[u8]) {
-    text();
-    print::bytes(s);
-}
-
-pub fn quoted(s: &[u8]) {
-    text();
-    print::quoted(s);
 }
 
 // A block, by its start and its end.
@@ -60,14 +42,9 @@ pub fn refused(k: u8) {
 pub fn flag(answer: Flag) {
     match answer {
         Flag::Refused(k) => refused(k),
-        Flag::Is(b) => truth(b),
-    }
-}
-
-fn truth(b: bool) {
-    if b {
-        word(b"true");
-    } else {
-        word(b"false");
+        Flag::Is(b) => {
+            text();
+            print::one_of(b"false|true", b as usize);
+        }
     }
 }

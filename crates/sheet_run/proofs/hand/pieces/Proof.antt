@@ -5,12 +5,12 @@ use Rattle.sheet_run.proofs.hand.pieces.Statement.{statement}
 use Rattle.sheet_run.proofs.hand.pieces.Tie as tie
 
 abbrev Inv : tie.InvT-loop
-Inv buffer n m₀ i₀ m i = Unit {0}
+Inv size buffer n m₀ i₀ t9 m i = Unit {0}
 
 abbrev μ : tie.MeasureT-loop
-μ buffer n m₀ i₀ m i = n - i
+μ size buffer n m₀ i₀ t9 m i = n - i
 
 pub pieces-spec : {M : Type 1} → statement M
 pieces-spec =
     tie.close
-    (tie.spec Inv μ (λ c. search needs) (λ c κs. search needs) (λ c. search needs) (λ c. search needs) (λ c. search needs) (λ c. search needs))
+    (tie.spec Inv μ (λ c κs. search needs) (λ c. search needs) (λ c κs. search needs) (λ c. search needs) (λ c. search needs) (λ c κs. search needs) (λ c. search needs) (λ c. search needs) (λ c. search needs) (λ c. search needs) (λ c κs. search needs) (λ c. search needs) (λ c. search needs) (λ c. search needs) (λ c κs. search needs) (λ c. search needs) (λ c. search needs) (λ c. search needs))

@@ -13,4 +13,4 @@ abbrev μ : tie.MeasureT-loop
 pub text-spec : {M : Type 1} → statement M
 text-spec =
     tie.close
-    (tie.spec Inv μ (λ c. search needs) (λ c κs. search needs) (λ c. search needs) (λ c. search needs) (λ c. search needs) (λ c. search needs) (λ c. search needs))
+    (tie.spec Inv μ (λ c. search needs) (λ c. search needs) (λ c κs. search needs) (λ c. search needs) (λ c. search needs) (λ c. search needs) (λ c κs. search needs) (λ c. search needs) (λ c. search needs) (λ c. search needs) (λ c. search needs))
