@@ -64,20 +64,15 @@ fn store(
     let queue = r.tsns;
     let pushed = queue.push(tsns, f, segment::size(user_data), r.cumulative);
     let answer = pushed.answer;
-    let fragments = r.fragments;
+    let tsns = pushed.queue;
+    let mut fragments = r.fragments;
     if is_stored(answer) {
-        let grown = reassemble(fragments, table, pool, f, user_data);
-        return with_queues(pushed.queue, grown, r.cumulative);
+        fragments = reassemble(fragments, table, pool, f, user_data);
     }
-    with_queues(pushed.queue, fragments, r.cumulative)
-}
-
-// The receiver with these queues.
-fn with_queues(tsns: PayloadQueue, fragments: ReassemblyQueue, cumulative: u32) -> Receiver {
     Receiver {
         tsns,
         fragments,
-        cumulative,
+        cumulative: r.cumulative,
     }
 }
 
@@ -108,13 +103,10 @@ fn reassemble(
     let answer = pushed.answer;
     match answer {
         chunks::Flag::Refused(k) => show::refused(k),
-        chunks::Flag::Is(complete) => {
-            if complete {
-                print::text(b"  stored: the message is complete\n");
-            } else {
-                print::text(b"  stored\n");
-            }
-        }
+        chunks::Flag::Is(complete) => print::one_of(
+            b"  stored\n|  stored: the message is complete\n",
+            complete as usize,
+        ),
     }
     pushed.queue
 }
@@ -134,7 +126,12 @@ fn move_on(r: Receiver, tsns: &mut [u32; payload_queue::WORDS]) -> Receiver {
             cumulative = next;
         }
     }
-    with_queues(queue, r.fragments, cumulative)
+    let fragments = r.fragments;
+    Receiver {
+        tsns: queue,
+        fragments,
+        cumulative,
+    }
 }
 
 fn came(answer: Taken) -> bool {

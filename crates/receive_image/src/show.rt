@@ -1,7 +1,6 @@
 // What the receiver does, line by line.
 use crate::receiver::Receiver;
 use chunk::Marshalled;
-use chunks::Chunks;
 use chunks::Number;
 use payload_queue::LOG;
 use payload_queue::PayloadQueue;
@@ -36,7 +35,7 @@ pub fn acknowledge(r: Receiver, tsns: &[u32; payload_queue::WORDS]) -> Receiver 
     }
 }
 
-// The cumulative TSN, the gap report and the SACK's bytes.
+// The blocks between what is held, and the log of duplicates, each as long as they are.
 fn report(
     queue: PayloadQueue,
     tsns: &[u32; payload_queue::WORDS],
@@ -48,8 +47,6 @@ fn report(
     let mut ends = [0u16; 8];
     let answer = queue.get_gap_ack_blocks(tsns, cumulative, &mut starts, &mut ends);
     let blocks = count(answer);
-    print::number_line(b"  cumulative TSN  ", cumulative as u64);
-    gaps(&starts, &ends, blocks);
     sack(
         cumulative,
         front(&starts, blocks),
@@ -78,13 +75,12 @@ fn front_tsns(list: &[u32], n: usize) -> &[u32] {
     if n <= list.len() { &list[0..n] } else { list }
 }
 
-fn gaps(starts: &[u16], ends: &[u16], n: usize) {
-    print::text(b"  gap report      ");
-    if n == 0 {
+fn gaps(starts: &[u16], ends: &[u16]) {
+    if starts.len() == 0 {
         print::text(b"none");
     }
     let mut i: usize = 0;
-    while i < n {
+    while i < starts.len() {
         if 0 < i {
             print::text(b", ");
         }
@@ -103,7 +99,13 @@ fn at(list: &[u16], i: usize) -> u16 {
     if i < list.len() { list[i] } else { 0 }
 }
 
+// The cumulative TSN, the gap report and the SACK's bytes.
 fn sack(cumulative: u32, starts: &[u16], ends: &[u16], duplicates: &[u32]) {
+    print::with_number(
+        b"  cumulative TSN  %\n  gap report      ",
+        cumulative as u64,
+    );
+    gaps(starts, ends);
     let mut out = [0u8; 64];
     let answer = chunk_selective_ack::marshal_to(
         &mut out,
@@ -124,14 +126,12 @@ pub fn taken(answer: Took, buffer: &[u8]) {
     match answer {
         Took::Refused(k) => refused(k),
         Took::Nothing => print::text(b"Nothing can be taken.\n"),
-        Took::Message(m) => image(m, buffer),
+        Took::Message(m) => {
+            print::with_number(b"The image, % bytes:\n  ", m.size as u64);
+            print::quoted(print::first(buffer, m.size));
+            print::text(b"\n");
+        }
     }
-}
-
-fn image(m: Chunks, buffer: &[u8]) {
-    print::with_number(b"The image, % bytes:\n  ", m.size as u64);
-    print::quoted(print::first(buffer, m.size));
-    print::text(b"\n");
 }
 
 pub fn left(answer: Number) {

@@ -12,40 +12,46 @@ use streams_model::Streams;
 fn main() {
     let mut table = [0u32; WORDS];
     let mut pool = [0u8; BYTES];
-    let streams = Streams::new(1000);
-    let streams = fill(streams, &mut table, &mut pool, 3, 400);
-    let streams = fill(streams, &mut table, &mut pool, 0, 16);
-    let streams = fill(streams, &mut table, &mut pool, 7, 16);
-    let streams = fill(streams, &mut table, &mut pool, 8, 0);
-    let streams = skip(streams, &mut table, &mut pool, 3, 300199);
-    let streams = fill(streams, &mut table, &mut pool, 7, 84);
+    let streams = filled(&mut table, &mut pool);
+    let streams = freed(streams, &mut table, &mut pool);
     let streams = message(streams, &mut table, &mut pool, 0);
     let streams = message(streams, &mut table, &mut pool, 7);
-    held(streams, &table, &pool, 3);
-    print::text(b" of stream 3, ");
-    held(streams, &table, &pool, 7);
-    print::text(b" of stream 7.\n");
+    totals(streams, &table, &pool);
 }
 
-// An unordered skip on a stream, and how many bytes it holds then.
-fn skip(
-    streams: Streams,
-    table: &mut [u32; WORDS],
-    pool: &mut [u8; BYTES],
-    stream: u16,
-    tsn: u32,
-) -> Streams {
+// One stream takes all that is common, two more what is their own; there is no ninth.
+fn filled(table: &mut [u32; WORDS], pool: &mut [u8; BYTES]) -> Streams {
+    let streams = Streams::new(1000);
+    let streams = fill(streams, table, pool, 3, 300000, 400);
+    let streams = fill(streams, table, pool, 0, 0, 16);
+    let streams = fill(streams, table, pool, 7, 700000, 16);
+    fill(streams, table, pool, 8, 0, 0)
+}
+
+// An unordered skip on the first of them, how many bytes it holds then, and what another may hold now.
+fn freed(streams: Streams, table: &mut [u32; WORDS], pool: &mut [u8; BYTES]) -> Streams {
     let left = streams_forward_unordered::forward_tsn_for_unordered(
         streams,
         table,
         pool,
-        stream,
-        tsn,
+        3,
+        300199,
     );
-    print::with_number(b"Stream % skips and holds ", stream as u64);
-    held(left.streams, table, pool, stream);
-    print::text(b"\n");
-    left.streams
+    held(
+        left.streams,
+        table,
+        pool,
+        3,
+        b"Stream % skips and holds ",
+        b"\n",
+    );
+    fill(left.streams, table, pool, 7, 700000, 84)
+}
+
+// What these two hold in the end.
+fn totals(streams: Streams, table: &[u32; WORDS], pool: &[u8; BYTES]) {
+    held(streams, table, pool, 3, b"", b" of stream 3, ");
+    held(streams, table, pool, 7, b"", b" of stream 7.\n");
 }
 
 // A chunk of a stream, the first or the last of its message or neither.
@@ -62,12 +68,7 @@ fn chunk(stream: u16, tsn: u32, unordered: bool, first: bool, last: bool) -> Chu
     }
 }
 
-// An unordered fragment, the first of its message.
-fn loose(stream: u16, tsn: u32) -> ChunkPayloadData {
-    chunk(stream, tsn, true, true, false)
-}
-
-// So many of one byte for a stream, with a TSN between each two.
+// So many unordered fragments of one byte for a stream, each the first of its message, with a TSN between each two.
 fn push_many(
     streams: Streams,
     table: &mut [u32; WORDS],
@@ -84,7 +85,8 @@ fn push_many(
     while i < n {
         let tsn = base + i * 2;
         i += 1;
-        let left = streams_push::push(now, table, pool, stream, loose(stream, tsn), b"x");
+        let loose = chunk(stream, tsn, true, true, false);
+        let left = streams_push::push(now, table, pool, stream, loose, b"x");
         now = left.streams;
     }
     now
@@ -96,16 +98,23 @@ fn fill(
     table: &mut [u32; WORDS],
     pool: &mut [u8; BYTES],
     stream: u16,
+    base: u32,
     n: u32,
 ) -> Streams
+    requires { ⌜ base ≤ 700000 ⌝ }
     requires { ⌜ n ≤ 1000 ⌝ }
 {
-    let base = (stream as u32) % 8 * 100000;
     let now = push_many(streams, table, pool, stream, base, n);
-    print::with_number(b"Stream % holds ", stream as u64);
-    held(now, table, pool, stream);
-    print::text(b", one more: ");
-    push(now, table, pool, loose(stream, base + 90000), b"x")
+    held(
+        now,
+        table,
+        pool,
+        stream,
+        b"Stream % holds ",
+        b", one more: ",
+    );
+    let loose = chunk(stream, base + 90000, true, true, false);
+    push(now, table, pool, loose, b"x")
 }
 
 // Pushes a chunk to its stream, and tells the answer.
@@ -118,7 +127,10 @@ fn push(
 ) -> Streams {
     let left = streams_push::push(streams, table, pool, c.stream_identifier, c, user_data);
     let answer = left.answer;
-    told(answer);
+    match answer {
+        Flag::Is(whole) => print::flag_line(b"complete: ", whole),
+        Flag::Refused(number) => print::with_number(b"refusal %\n", number as u64),
+    }
     left.streams
 }
 
@@ -156,22 +168,20 @@ fn read(
     taken.streams
 }
 
-// How many bytes a stream holds.
-fn held(streams: Streams, table: &[u32; WORDS], pool: &[u8; BYTES], stream: u16) {
+// How many bytes a stream holds, between two texts; a % in the first stands for the stream.
+fn held(
+    streams: Streams,
+    table: &[u32; WORDS],
+    pool: &[u8; BYTES],
+    stream: u16,
+    before: &[u8],
+    after: &[u8],
+) {
+    print::with_number(before, stream as u64);
     let answer = streams_look::get_num_bytes(streams, table, pool, stream);
     match answer {
         Number::Is(n) => print::number(n as u64),
-        Number::Refused(number) => {
-            print::text(b"refusal ");
-            print::number(number as u64);
-        }
+        Number::Refused(number) => print::with_number(b"refusal %", number as u64),
     }
-}
-
-// What a push answered.
-fn told(answer: Flag) {
-    match answer {
-        Flag::Is(whole) => print::flag_line(b"complete: ", whole),
-        Flag::Refused(number) => print::number_line(b"refusal ", number as u64),
-    }
+    print::text(after);
 }
