@@ -9,13 +9,6 @@ pub fn number(n: u64) {
     io::print_decimal(STDOUT_FILENO, n);
 }
 
-// A line of a name and a number.
-pub fn number_line(name: &[u8], n: u64) {
-    text(name);
-    number(n);
-    text(b"\n");
-}
-
 // A text in which each % stands for the next of the numbers.
 pub fn filled(s: &[u8], numbers: [u64; 4]) {
     let mut next: usize = 0;
@@ -58,11 +51,7 @@ fn letter(b: u8) {
 // A line of a name and yes or no.
 pub fn flag_line(name: &[u8], set: bool) {
     text(name);
-    if set {
-        text(b"yes\n");
-    } else {
-        text(b"no\n");
-    }
+    one_of(b"no\n|yes\n", set as usize);
 }
 
 // A line of a name and bytes, as the paper writes them.
@@ -85,18 +74,9 @@ pub fn bytes(s: &[u8]) {
 }
 
 fn byte(b: u8) {
-    let pair = [digit(b / 16), digit(b % 16)];
+    let digits = *b"0123456789ABCDEF";
+    let pair = [digits[(b / 16) as usize], digits[(b % 16) as usize]];
     text(&pair);
-}
-
-fn digit(n: u8) -> u8 {
-    if n < 10 {
-        return b'0' + n;
-    }
-    if n < 16 {
-        return b'A' - 10 + n;
-    }
-    b'?'
 }
 
 // The bytes as text in quotes, with a dot for each that is no printable character of ASCII.
@@ -104,18 +84,14 @@ pub fn quoted(s: &[u8]) {
     text(b"\"");
     let mut i: usize = 0;
     while i < s.len() {
-        character(s[i]);
+        let mut b = s[i];
         i += 1;
-    }
-    text(b"\"");
-}
-
-fn character(b: u8) {
-    if b < 0x20 || 0x7E < b {
-        text(b".");
-    } else {
+        if b < 0x20 || 0x7E < b {
+            b = b'.';
+        }
         letter(b);
     }
+    text(b"\"");
 }
 
 // The first n of these bytes; all of them where there are fewer.

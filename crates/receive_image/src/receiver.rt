@@ -46,7 +46,9 @@ fn receive(
         Unmarshalled::Fields(f) => {
             let mut refusal: u8 = 0;
             let user_data = chunk_payload_data::user_data(raw, &mut refusal);
-            show::arrival(f.tsn, user_data);
+            print::with_number(b"TSN % arrives with ", f.tsn as u64);
+            print::quoted(user_data);
+            print::text(b"\n");
             store(r, tsns, table, pool, f, user_data)
         }
     }
@@ -66,29 +68,20 @@ fn store(
     let answer = pushed.answer;
     let tsns = pushed.queue;
     let mut fragments = r.fragments;
-    if is_stored(answer) {
-        fragments = reassemble(fragments, table, pool, f, user_data);
+    match answer {
+        Flag::Refused(k) => show::refused(k),
+        Flag::Is(stored) => {
+            if stored {
+                fragments = reassemble(fragments, table, pool, f, user_data);
+            } else {
+                print::text(b"  came before: logged as a duplicate\n");
+            }
+        }
     }
     Receiver {
         tsns,
         fragments,
         cumulative: r.cumulative,
-    }
-}
-
-// Whether the TSN queue stored the TSN; where it did not, why.
-fn is_stored(answer: Flag) -> bool {
-    match answer {
-        Flag::Refused(k) => {
-            show::refused(k);
-            false
-        }
-        Flag::Is(stored) => {
-            if !stored {
-                print::text(b"  came before: logged as a duplicate\n");
-            }
-            stored
-        }
     }
 }
 

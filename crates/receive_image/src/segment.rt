@@ -27,32 +27,24 @@ pub fn arrival(i: usize) -> usize {
     if i < order.len() { order[i] } else { 0 }
 }
 
-// The header fields of a segment: the first is marked beginning, the last ending.
-fn fields(i: u32) -> ChunkPayloadData {
-    ChunkPayloadData {
-        unordered: false,
-        beginning_fragment: i == 0,
-        ending_fragment: i == 5,
-        immediate_sack: false,
-        tsn: std::num::wrapping_add_u32(FIRST, i),
-        stream_identifier: STREAM,
-        stream_sequence_number: 0,
-        payload_type: LOADER,
-    }
-}
-
-// The chunk of a segment, as it comes over the wire; answers its byte count.
+// The chunk of a segment, as it comes over the wire: the first is marked beginning, the last ending. Answers its byte count.
 pub fn wire(i: usize, out: &mut [u8]) -> usize {
     if SEGMENTS <= i {
         return 0;
     }
+    let fields = ChunkPayloadData {
+        unordered: false,
+        beginning_fragment: i == 0,
+        ending_fragment: i == 5,
+        immediate_sack: false,
+        tsn: std::num::wrapping_add_u32(FIRST, i as u32),
+        stream_identifier: STREAM,
+        stream_sequence_number: 0,
+        payload_type: LOADER,
+    };
     let image = IMAGE;
     let start = SEGMENT * i;
-    let answer = chunk_payload_data::marshal_to(
-        out,
-        fields(i as u32),
-        &image[start..start + SEGMENT],
-    );
+    let answer = chunk_payload_data::marshal_to(out, fields, &image[start..start + SEGMENT]);
     match answer {
         Marshalled::Bytes(n) => n,
         Marshalled::Refused(_) => 0,

@@ -2,30 +2,32 @@
 use crate::receiver::Receiver;
 use chunk::Marshalled;
 use chunks::Number;
-use payload_queue::LOG;
-use payload_queue::PayloadQueue;
 use reassembly_queue::Took;
 
 // The window that the SACKs advertise.
 const WINDOW: u32 = 1500;
 
 pub fn refused(k: u8) {
-    print::number_line(b"  refused with ", k as u64);
+    print::with_number(b"  refused with %\n", k as u64);
 }
 
-pub fn arrival(tsn: u32, user_data: &[u8]) {
-    print::with_number(b"TSN % arrives with ", tsn as u64);
-    print::quoted(user_data);
-    print::text(b"\n");
-}
-
-// What is acknowledged; the log of duplicates goes out with it.
+// What is acknowledged: the blocks between what is held, and the log of duplicates, which goes out with it.
 pub fn acknowledge(r: Receiver, tsns: &[u32; payload_queue::WORDS]) -> Receiver {
     let queue = r.tsns;
     let handed = queue.pop_duplicates(tsns);
     let logged = handed.answer;
     let log = handed.tsns;
-    report(queue, tsns, r.cumulative, log, count(logged));
+    let dups = count(logged);
+    let mut starts = [0u16; 8];
+    let mut ends = [0u16; 8];
+    let answer = queue.get_gap_ack_blocks(tsns, r.cumulative, &mut starts, &mut ends);
+    let blocks = count(answer);
+    sack(
+        r.cumulative,
+        front(&starts, blocks),
+        front(&ends, blocks),
+        front_tsns(&log, dups),
+    );
     let fragments = r.fragments;
     let emptied = handed.queue;
     Receiver {
@@ -33,26 +35,6 @@ pub fn acknowledge(r: Receiver, tsns: &[u32; payload_queue::WORDS]) -> Receiver 
         fragments,
         cumulative: r.cumulative,
     }
-}
-
-// The blocks between what is held, and the log of duplicates, each as long as they are.
-fn report(
-    queue: PayloadQueue,
-    tsns: &[u32; payload_queue::WORDS],
-    cumulative: u32,
-    log: [u32; LOG],
-    dups: usize,
-) {
-    let mut starts = [0u16; 8];
-    let mut ends = [0u16; 8];
-    let answer = queue.get_gap_ack_blocks(tsns, cumulative, &mut starts, &mut ends);
-    let blocks = count(answer);
-    sack(
-        cumulative,
-        front(&starts, blocks),
-        front(&ends, blocks),
-        front_tsns(&log, dups),
-    );
 }
 
 // The number of an answer; a refusal is shown, and counts as none.
@@ -137,6 +119,6 @@ pub fn taken(answer: Took, buffer: &[u8]) {
 pub fn left(answer: Number) {
     match answer {
         Number::Refused(k) => refused(k),
-        Number::Is(n) => print::number_line(b"Bytes still held: ", n as u64),
+        Number::Is(n) => print::with_number(b"Bytes still held: %\n", n as u64),
     }
 }

@@ -2,7 +2,6 @@
 use crate::arrivals;
 use crate::show;
 use chunk::Marshalled;
-use chunk_payload_data::ChunkPayloadData;
 use chunk_payload_data::Unmarshalled;
 
 pub fn p2() {
@@ -27,25 +26,21 @@ fn read(raw: &[u8]) {
         Unmarshalled::Fields(f) => {
             let mut refusal: u8 = 0;
             let user = chunk_payload_data::user_data(raw, &mut refusal);
-            fields(f);
+            // U, B and E, by their bits 4, 2 and 1; then the numbers.
+            let bits = chunk_payload_data::flags_of(f) % 8;
+            show::text();
+            print::one_of(
+                b"|E|B and |B and E|U and |U and E|U and B and |U and B and E",
+                bits as usize,
+            );
+            show::number(f.tsn as u64);
+            show::number(f.stream_identifier as u64);
+            show::number(f.stream_sequence_number as u64);
+            show::number(f.payload_type as u64);
             show::text();
             print::quoted(user);
         }
     }
-}
-
-// U, B and E, by their bits 4, 2 and 1; then the numbers.
-fn fields(f: ChunkPayloadData) {
-    let bits = chunk_payload_data::flags_of(f) % 8;
-    show::text();
-    print::one_of(
-        b"|E|B and |B and E|U and |U and E|U and B and |U and B and E",
-        bits as usize,
-    );
-    show::number(f.tsn as u64);
-    show::number(f.stream_identifier as u64);
-    show::number(f.stream_sequence_number as u64);
-    show::number(f.payload_type as u64);
 }
 
 pub fn p3() {

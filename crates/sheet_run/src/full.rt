@@ -51,18 +51,17 @@ fn one_more(
     let q = pushed.queue;
     match answer {
         Flag::Refused(k) => show::refused(k),
-        Flag::Is(_) => stored(q.get_num_bytes(table, pool), want),
-    }
-    q
-}
-
-fn stored(answer: Number, want: usize) {
-    match answer {
-        Number::Refused(k) => show::refused(k),
-        Number::Is(n) => {
-            if n == want {
-                show::word(b"stored");
+        Flag::Is(_) => {
+            let held = q.get_num_bytes(table, pool);
+            match held {
+                Number::Refused(k) => show::refused(k),
+                Number::Is(n) => {
+                    if n == want {
+                        show::word(b"stored");
+                    }
+                }
             }
         }
     }
+    q
 }

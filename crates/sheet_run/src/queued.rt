@@ -17,7 +17,14 @@ pub fn report(a: u32, b: u32, c: u32, cumulative: u32) {
     let answer = queue.get_gap_ack_blocks(&table, cumulative, &mut starts, &mut ends);
     match answer {
         Number::Refused(k) => show::refused(k),
-        Number::Is(n) => blocks(starts, ends, n),
+        Number::Is(n) => {
+            if 0 < n {
+                show::block(starts[0], ends[0]);
+            }
+            if 1 < n {
+                show::block(starts[1], ends[1]);
+            }
+        }
     }
 }
 
@@ -39,13 +46,4 @@ fn queue_up(
         }
     }
     pushed.queue
-}
-
-fn blocks(starts: [u16; 2], ends: [u16; 2], n: usize) {
-    if 0 < n {
-        show::block(starts[0], ends[0]);
-    }
-    if 1 < n {
-        show::block(starts[1], ends[1]);
-    }
 }

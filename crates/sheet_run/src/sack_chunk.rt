@@ -33,7 +33,11 @@ fn read(raw: &[u8]) {
             block(blocks, 0);
             block(blocks, 1);
             let tsns = chunk_selective_ack::duplicate_tsns(raw, &mut refusal);
-            duplicate(tsns, 0);
+            let answer = chunk_selective_ack::duplicate_tsn_at(tsns, 0);
+            match answer {
+                DuplicateTsnAt::Refused(k) => show::refused(k),
+                DuplicateTsnAt::Tsn(tsn) => show::number(tsn as u64),
+            }
         }
     }
 }
@@ -43,13 +47,5 @@ fn block(part: &[u8], i: usize) {
     match answer {
         GapAckBlockAt::Refused(k) => show::refused(k),
         GapAckBlockAt::Block(b) => show::block(b.start, b.end),
-    }
-}
-
-fn duplicate(part: &[u8], i: usize) {
-    let answer = chunk_selective_ack::duplicate_tsn_at(part, i);
-    match answer {
-        DuplicateTsnAt::Refused(k) => show::refused(k),
-        DuplicateTsnAt::Tsn(tsn) => show::number(tsn as u64),
     }
 }

@@ -16,17 +16,12 @@ pub fn written(raw: &[u8], out: &[u8]) {
     }
 }
 
-// The last line of a chunk that was not read, or not written again.
+// The last line of a chunk that was not read, or not written again, with what the refusals of a chunk call mean: 1 to 5, 9 and 10.
 pub fn refused(k: u8) {
     print::with_number(b"  refused             %", k as u64);
-    reason(k);
-    print::text(b"\n");
-}
-
-// What the refusals of a chunk call mean: 1 to 5, 9 and 10.
-fn reason(k: u8) {
     print::one_of(
         b"|: fewer than 4 bytes lent|: length below 4 or above the bytes lent|: not the type asked for|: DATA length below 16|: SACK length below 16, or below its lists' end||||: too long for a chunk|: buffer too short",
         k as usize,
     );
+    print::text(b"\n");
 }

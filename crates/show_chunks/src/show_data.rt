@@ -13,14 +13,19 @@ pub fn show(title: &[u8], raw: &[u8]) {
         Unmarshalled::Fields(f) => {
             let mut refusal: u8 = 0;
             let user = chunk_payload_data::user_data(raw, &mut refusal);
-            show_fields(f);
-            show_user_data(user);
-            write_again(raw, f, user);
+            show_fields(f, user);
+            // The chunk is written into a fresh buffer, with room for the longest one.
+            let mut out = [0u8; 65535];
+            let again = chunk_payload_data::marshal_to(&mut out, f, user);
+            match again {
+                Marshalled::Refused(k) => outcome::refused(k),
+                Marshalled::Bytes(n) => outcome::written(raw, print::first(&out, n)),
+            }
         }
     }
 }
 
-fn show_fields(f: ChunkPayloadData) {
+fn show_fields(f: ChunkPayloadData, user: &[u8]) {
     print::flag_line(b"  unordered           ", f.unordered);
     print::flag_line(b"  beginning fragment  ", f.beginning_fragment);
     print::flag_line(b"  ending fragment     ", f.ending_fragment);
@@ -37,6 +42,11 @@ fn show_fields(f: ChunkPayloadData) {
         b" (Dcep)\n| (String)\n| (Binary)\n| (StringEmpty)\n| (BinaryEmpty)\n| (Unknown)\n",
         name(PayloadProtocolIdentifier::from_u32(f.payload_type)),
     );
+    print::with_number(b"  user data           % bytes: ", user.len() as u64);
+    print::bytes(user);
+    print::text(b", ");
+    print::quoted(user);
+    print::text(b"\n");
 }
 
 // Its place among the names.
@@ -48,23 +58,5 @@ fn name(identifier: PayloadProtocolIdentifier) -> usize {
         PayloadProtocolIdentifier::StringEmpty => 3,
         PayloadProtocolIdentifier::BinaryEmpty => 4,
         PayloadProtocolIdentifier::Unknown => 5,
-    }
-}
-
-fn show_user_data(user: &[u8]) {
-    print::with_number(b"  user data           % bytes: ", user.len() as u64);
-    print::bytes(user);
-    print::text(b", ");
-    print::quoted(user);
-    print::text(b"\n");
-}
-
-// Writes the chunk into a fresh buffer, with room for the longest one.
-fn write_again(raw: &[u8], f: ChunkPayloadData, user: &[u8]) {
-    let mut out = [0u8; 65535];
-    let answer = chunk_payload_data::marshal_to(&mut out, f, user);
-    match answer {
-        Marshalled::Refused(k) => outcome::refused(k),
-        Marshalled::Bytes(n) => outcome::written(raw, print::first(&out, n)),
     }
 }

@@ -3,7 +3,6 @@ use crate::outcome;
 use chunk::Marshalled;
 use chunk_selective_ack::ChunkSelectiveAck;
 use chunk_selective_ack::DuplicateTsnAt;
-use chunk_selective_ack::GapAckBlock;
 use chunk_selective_ack::GapAckBlockAt;
 use chunk_selective_ack::Unmarshalled;
 
@@ -26,7 +25,7 @@ pub fn show(title: &[u8], raw: &[u8]) {
                 [cumulative, window, f.gap_ack_blocks as u64, 0],
             );
             show_blocks(blocks);
-            print::number_line(b"  duplicate TSNs      ", f.duplicate_tsns as u64);
+            print::with_number(b"  duplicate TSNs      %\n", f.duplicate_tsns as u64);
             show_tsns(tsns);
             write_again(raw, f, blocks, tsns);
         }
@@ -39,17 +38,13 @@ fn show_blocks(part: &[u8]) {
         let answer = chunk_selective_ack::gap_ack_block_at(part, i);
         match answer {
             GapAckBlockAt::Refused(k) => outcome::refused(k),
-            GapAckBlockAt::Block(b) => show_block(b),
+            GapAckBlockAt::Block(b) => print::filled(
+                b"    block             %-%\n",
+                [b.start as u64, b.end as u64, 0, 0],
+            ),
         }
         i += 1;
     }
-}
-
-fn show_block(b: GapAckBlock) {
-    print::filled(
-        b"    block             %-%\n",
-        [b.start as u64, b.end as u64, 0, 0],
-    );
 }
 
 fn show_tsns(part: &[u8]) {
@@ -58,13 +53,16 @@ fn show_tsns(part: &[u8]) {
         let answer = chunk_selective_ack::duplicate_tsn_at(part, i);
         match answer {
             DuplicateTsnAt::Refused(k) => outcome::refused(k),
-            DuplicateTsnAt::Tsn(tsn) => print::number_line(b"    TSN               ", tsn as u64),
+            DuplicateTsnAt::Tsn(tsn) => print::with_number(
+                b"    TSN               %\n",
+                tsn as u64,
+            ),
         }
         i += 1;
     }
 }
 
-// Writes the chunk into a fresh buffer, with room for the longest one.
+// Copies the lists, and writes the chunk into a fresh buffer, with room for the longest one.
 fn write_again(raw: &[u8], f: ChunkSelectiveAck, blocks: &[u8], tsns: &[u8]) {
     let mut starts = [0u16; MOST];
     let mut ends = [0u16; MOST];
