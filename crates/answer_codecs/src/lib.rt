@@ -9,11 +9,13 @@ mod writers;
 
 use answer_text::answer;
 use answer_text::operands;
+use answer_text::out;
 use answer_text::out::SPACE;
 
 pub fn call(call: &[u8], out: &mut [u8; SPACE], at: usize) -> usize {
     match operands::u8_at(call, 0) {
-        1 | 2 | 3 | 4 => numbers::call(call, out, at),
+        3 => out::signed(out, at, numbers::tsn_distance(call)),
+        4 => out::signed(out, at, numbers::ssn_distance(call)),
         7 | 10 | 11 | 54 | 62 => readers::part(call, out, at),
         8 | 14 | 56 | 64 => writers::call(call, out, at),
         63 => walk::walked(operands::raw(call), out, at),

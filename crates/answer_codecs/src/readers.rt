@@ -1,4 +1,4 @@
-// The calls that read: headers, DATA, SACK, FORWARD TSN and packets; and the comparisons.
+// The calls that read: headers, DATA, SACK, FORWARD TSN and packets; and the comparisons of numbers that wrap.
 use crate::forward;
 use crate::numbers;
 use crate::packets;
@@ -15,6 +15,8 @@ pub fn call(call: &[u8]) -> Answer {
     let raw = operands::raw(call);
     let i = operands::index(call);
     match operands::u8_at(call, 0) {
+        1 => numbers::sna32(call),
+        2 => numbers::sna16(call),
         5 => header(raw),
         6 => data_chunk(raw),
         12 => block_at(raw, i),

@@ -101,18 +101,20 @@ pub const DEPTHS: u8 = 41;
 
 pub const SIZES: u8 = 42;
 
-// The first of the sets of flags, and of marks, each set in the order of its number.
+// The first of the sets of flags, of marks, and of four times yes or no, each set in the order of its number.
 pub const FLAGS: u8 = 43;
 
 pub const MARKS: u8 = 59;
 
-const ALL: u8 = 67;
+pub const ORDERS: u8 = 67;
+
+const ALL: u8 = 83;
 
 // So many bytes, of which those from a low line on are none of the word.
 const WIDTH: usize = 15;
 
-const WORDS: [u8; 1005] =
-    *b"yes____________no_____________done___________none___________refused________number_________tsn____________header_________data___________part___________wrote__________sack___________block__________chunk__________log____________blocks_________held___________whole__________message________piece__________queue__________forward________stream_________nothing in handpacket_________walk___________causes_________sent___________earlier________same___________later__________opposite_______malformed call________________ |_____________ | f___________ | u___________ | o___________ starts________ ends__________ codes_________ depths________ sizes_________ -_____________ E_____________ B_____________ BE____________ U_____________ UE____________ UB____________ UBE___________ I_____________ EI____________ BI____________ BEI___________ UI____________ UEI___________ UBI___________ UBEI__________ -_____________ A_____________ X_____________ AX____________ R_____________ AR____________ XR____________ AXR___________";
+const WORDS: [u8; 1245] =
+    *b"yes____________no_____________done___________none___________refused________number_________tsn____________header_________data___________part___________wrote__________sack___________block__________chunk__________log____________blocks_________held___________whole__________message________piece__________queue__________forward________stream_________nothing in handpacket_________walk___________causes_________sent___________earlier________same___________later__________opposite_______malformed call________________ |_____________ | f___________ | u___________ | o___________ starts________ ends__________ codes_________ depths________ sizes_________ -_____________ E_____________ B_____________ BE____________ U_____________ UE____________ UB____________ UBE___________ I_____________ EI____________ BI____________ BEI___________ UI____________ UEI___________ UBI___________ UBEI__________ -_____________ A_____________ X_____________ AX____________ R_____________ AR____________ XR____________ AXR___________no no no no____no no no yes___no no yes no___no no yes yes__no yes no no___no yes no yes__no yes yes no__no yes yes yes_yes no no no___yes no no yes__yes no yes no__yes no yes yes_yes yes no no__yes yes no yes_yes yes yes no_yes yes yes yes";
 
 pub fn five(word: u8, count: u8, a: u64, b: u64, c: u64, d: u64, e: u64) -> Answer {
     Answer {
@@ -137,6 +139,11 @@ pub fn refused(k: u8) -> Answer {
 
 pub fn is(yes: bool) -> Answer {
     if yes { plain(YES) } else { plain(NO) }
+}
+
+// The value of what is in a set.
+pub fn bit(is: bool, value: u8) -> u8 {
+    if is { value } else { 0 }
 }
 
 // How many bytes were written.

@@ -17,22 +17,19 @@ const PLACES: usize = 9;
 const FORMS: [u8; 747] =
     *b"?        44       22       44       22       r        r        r        b1f4224d r        r        r        r8       r8       b144ssw  ?                 44       f422424  4        4        4                 4nn2                                         2                 q28               24       f4224d            b1       2        4                          t28               24       244      ?        ?        ?        ?                          b1       8        m8       r        r        r8       b14ss    44       r44      r        r        r8       r8       r        b1224r   rcccc2   rcccc2   44       22                f422428  4                 8        4        4        4                                            h28               ";
 
-// The letter of an operand; a space behind the last one.
-fn letter(number: u8, operand: usize) -> u8 {
-    let forms = FORMS;
-    if number < CALLS {
-        return operands::u8_at(&forms, PLACES * number as usize + operand % PLACES);
-    }
-    b'?'
-}
-
 // The bytes of the call that the lent bytes begin with.
 pub fn length(s: &[u8]) -> usize {
+    let forms = FORMS;
     let number = operands::u8_at(s, 0);
+    if CALLS <= number {
+        return MALFORMED;
+    }
+    let from = PLACES * number as usize;
+    let letters = operands::part(&forms, from, from + PLACES);
     let mut at: usize = 1;
     let mut i: usize = 0;
     while i < PLACES {
-        at = behind(s, at, letter(number, i));
+        at = behind(s, at, operands::u8_at(letters, i));
         i += 1;
     }
     at

@@ -88,11 +88,7 @@ fn sent(s: Sent, out: &mut [u8; SPACE], at: usize) -> usize {
 
 // The marks as a number: acknowledged 1, abandoned 2, to be sent again 4.
 fn marks(s: Sent) -> u8 {
-    bit(s.acked, 1) | bit(s.abandoned, 2) | bit(s.retransmit, 4)
-}
-
-fn bit(is: bool, value: u8) -> u8 {
-    if is { value } else { 0 }
+    answer::bit(s.acked, 1) | answer::bit(s.abandoned, 2) | answer::bit(s.retransmit, 4)
 }
 
 // The calls that answer with no chunk.

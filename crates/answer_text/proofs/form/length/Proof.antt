@@ -5,12 +5,12 @@ use Rattle.answer_text.proofs.form.length.Statement.{statement}
 use Rattle.answer_text.proofs.form.length.Tie as tie
 
 abbrev Inv : tie.InvT-loop
-Inv s number at₀ i₀ at i = Unit {0}
+Inv s number from letters at₀ i₀ at i = Unit {0}
 
 abbrev μ : tie.MeasureT-loop
-μ s number at₀ i₀ at i = 9 - i
+μ s number from letters at₀ i₀ at i = 9 - i
 
 pub length-spec : {M : Type 1} → statement M
 length-spec =
     tie.close
-    (tie.spec Inv μ (λ c κs. search needs) (λ c. search needs) (λ c κs. search needs) (λ c κs. search needs) (λ c. search needs) (λ c. search needs) (λ c. search needs) (λ c. search needs))
+    (tie.spec Inv μ (λ c κs. search needs) (λ c. search needs) (λ c. search needs) (λ c. search needs) (λ c. search needs) (λ c. search needs) (λ c κs. search needs) (λ c. search needs) (λ c κs. search needs) (λ c κs. search needs) (λ c. search needs) (λ c. search needs) (λ c. search needs) (λ c. search needs))
