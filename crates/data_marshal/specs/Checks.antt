@@ -6,6 +6,7 @@ use lib.Dec.{ltb, eqb}
 use Rattle.wire.specs.Refusal.{Check, when}
 use Rattle.data_marshal.specs.Layout.{Data}
 
+-- the chunk's fields beside its flags, in the order in which a call is given them
 abbrev pub sent : ℕ → ℕ → ℕ → ℕ → Data
 sent tsn stream ssn identifier = record { tsn = tsn; stream = stream; ssn = ssn; identifier = identifier }
 
