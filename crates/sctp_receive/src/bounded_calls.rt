@@ -42,16 +42,13 @@ pub extern "C" fn sctp_receive_reassembly_queue_forward_tsn_for_ordered_bounded(
         new_cumulative_tsn,
     );
     let left = forwarded.queue;
-    sctp_receive_fragments::put(
-        left,
-        si,
-        next_ssn,
-        max_message_size,
-        finished,
-        unordered,
-        ordered,
-        n_bytes,
-    );
+    *si = left.si;
+    *next_ssn = left.next_ssn;
+    *max_message_size = left.max_message_size;
+    *finished = left.finished;
+    *unordered = left.unordered;
+    *ordered = left.ordered;
+    *n_bytes = left.n_bytes;
     let answer = forwarded.answer;
     sctp_receive_fragments::forwarded(answer)
 }

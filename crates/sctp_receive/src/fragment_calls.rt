@@ -28,16 +28,13 @@ pub extern "C" fn sctp_receive_reassembly_queue_new(
     ensures { λ _. ⌜ fragmentCounts (now (si .exit)) (now («next_ssn» .exit)) (now («max_message_size» .exit)) (now (finished .exit)) (now (unordered .exit)) (now (ordered .exit)) (now («n_bytes» .exit)) ≡ fresh stream most ⌝ }
 {
     let left = ReassemblyQueue::new(stream, most);
-    sctp_receive_fragments::put(
-        left,
-        si,
-        next_ssn,
-        max_message_size,
-        finished,
-        unordered,
-        ordered,
-        n_bytes,
-    );
+    *si = left.si;
+    *next_ssn = left.next_ssn;
+    *max_message_size = left.max_message_size;
+    *finished = left.finished;
+    *unordered = left.unordered;
+    *ordered = left.ordered;
+    *n_bytes = left.n_bytes;
 }
 
 // Stores the chunk with its user data: true where that completes a message. False where it is of another stream, old, or there already;
@@ -87,16 +84,13 @@ pub extern "C" fn sctp_receive_reassembly_queue_push(
     };
     let pushed = queue.push(table, pool, chunk, user_data);
     let left = pushed.queue;
-    sctp_receive_fragments::put(
-        left,
-        si,
-        next_ssn,
-        max_message_size,
-        finished,
-        unordered,
-        ordered,
-        n_bytes,
-    );
+    *si = left.si;
+    *next_ssn = left.next_ssn;
+    *max_message_size = left.max_message_size;
+    *finished = left.finished;
+    *unordered = left.unordered;
+    *ordered = left.ordered;
+    *n_bytes = left.n_bytes;
     let answer = pushed.answer;
     sctp_receive_fragments::flag(answer, is)
 }
@@ -163,19 +157,21 @@ pub extern "C" fn sctp_receive_reassembly_queue_read(
         n_bytes: *n_bytes,
     };
     let taken = queue.read(table, pool, buffer);
-    let left = taken.queue;
-    sctp_receive_fragments::put(
-        left,
-        si,
-        next_ssn,
-        max_message_size,
-        finished,
-        unordered,
-        ordered,
-        n_bytes,
-    );
-    let answer = taken.answer;
-    sctp_receive_fragments::taken(answer, found, ssn, ppi, bytes, position, given)
+    let left = sctp_receive_fragments::taken(taken);
+    *si = left.si;
+    *next_ssn = left.next_ssn;
+    *max_message_size = left.max_message_size;
+    *finished = left.finished;
+    *unordered = left.unordered;
+    *ordered = left.ordered;
+    *n_bytes = left.n_bytes;
+    *found = left.found;
+    *ssn = left.ssn;
+    *ppi = left.ppi;
+    *bytes = left.bytes;
+    *position = left.position;
+    *given = left.given;
+    left.code
 }
 
 // Drops incomplete sets at or before an SSN, and expects the one after it.
@@ -205,16 +201,13 @@ pub extern "C" fn sctp_receive_reassembly_queue_forward_tsn_for_ordered(
     };
     let forwarded = queue.forward_tsn_for_ordered(table, pool, last_ssn);
     let left = forwarded.queue;
-    sctp_receive_fragments::put(
-        left,
-        si,
-        next_ssn,
-        max_message_size,
-        finished,
-        unordered,
-        ordered,
-        n_bytes,
-    );
+    *si = left.si;
+    *next_ssn = left.next_ssn;
+    *max_message_size = left.max_message_size;
+    *finished = left.finished;
+    *unordered = left.unordered;
+    *ordered = left.ordered;
+    *n_bytes = left.n_bytes;
     let answer = forwarded.answer;
     sctp_receive_fragments::forwarded(answer)
 }
@@ -246,16 +239,13 @@ pub extern "C" fn sctp_receive_reassembly_queue_forward_tsn_for_unordered(
     };
     let forwarded = queue.forward_tsn_for_unordered(table, pool, new_cumulative_tsn);
     let left = forwarded.queue;
-    sctp_receive_fragments::put(
-        left,
-        si,
-        next_ssn,
-        max_message_size,
-        finished,
-        unordered,
-        ordered,
-        n_bytes,
-    );
+    *si = left.si;
+    *next_ssn = left.next_ssn;
+    *max_message_size = left.max_message_size;
+    *finished = left.finished;
+    *unordered = left.unordered;
+    *ordered = left.ordered;
+    *n_bytes = left.n_bytes;
     let answer = forwarded.answer;
     sctp_receive_fragments::forwarded(answer)
 }
@@ -279,20 +269,30 @@ pub extern "C" fn sctp_receive_forward_tsn_apply_to_stream(
 ) -> i32
     ensures { λ r. ⌜ ((f : Pairs (now (streams .entry))) → after (done r) (stateFrom (now (si .exit)) (now («next_ssn» .exit)) (now («max_message_size» .exit)) (now (finished .exit)) (now (unordered .exit)) (now (ordered .exit)) (now («n_bytes» .exit)) (now (table .exit)) (now (pool .exit))) ≡ appliedToStream (stateFrom (now (si .entry)) (now («next_ssn» .entry)) (now («max_message_size» .entry)) (now (finished .entry)) (now (unordered .entry)) (now (ordered .entry)) (now («n_bytes» .entry)) (now (table .entry)) (now (pool .entry))) «cumulative_tsn» «new_cumulative_tsn» (f .streams) (f .ssns)) ⌝ }
 {
-    sctp_receive_forward::apply_to_stream(
-        si,
-        next_ssn,
-        max_message_size,
-        finished,
-        unordered,
-        ordered,
-        n_bytes,
+    let skipped = sctp_receive_forward::apply_to_stream(
+        *si,
+        *next_ssn,
+        *max_message_size,
+        *finished,
+        *unordered,
+        *ordered,
+        *n_bytes,
         table,
         pool,
         cumulative_tsn,
         new_cumulative_tsn,
         streams,
-    )
+    );
+    let left = skipped.queue;
+    *si = left.si;
+    *next_ssn = left.next_ssn;
+    *max_message_size = left.max_message_size;
+    *finished = left.finished;
+    *unordered = left.unordered;
+    *ordered = left.ordered;
+    *n_bytes = left.n_bytes;
+    let answer = skipped.answer;
+    sctp_receive_fragments::forwarded(answer)
 }
 
 // The number of bytes held.

@@ -71,8 +71,12 @@ pub extern "C" fn sctp_receive_chunks_next(
 {
     let message = sctp_receive_fragments::hand(*bytes, *position, *given);
     let next = message.next(buffer, most);
-    let left = next.message;
-    sctp_receive_fragments::put_hand(left, bytes, position, given);
-    let answer = next.answer;
-    sctp_receive_fragments::piece(answer, found, piece_start, piece_size)
+    let left = sctp_receive_fragments::piece(next);
+    *bytes = left.bytes;
+    *position = left.position;
+    *given = left.given;
+    *found = left.found;
+    *piece_start = left.start;
+    *piece_size = left.size;
+    left.code
 }

@@ -1,11 +1,12 @@
-// What the C calls of the message in hand are made of: the fields that C keeps, put together and put back, and the answers, taken apart: the values go
-// through references, 0 and false beside a refusal, and the result is -1 or the refusal's number.
+// What the C calls of the message in hand are made of: the fields that C keeps, put together, and the answers, taken apart: the values, 0 and false beside a
+// refusal, and the result, -1 or the refusal's number.
 ghost use mathlib.Core.Path.{_≡_};
 ghost use Rattle.chunks.specs.Message.{flagTold, numberTold, pieceTold};
 ghost use Rattle.sctp_receive_result.specs.Result.{told, back};
 ghost use Rattle.sctp_receive_model.specs.States.{handFrom, pieceFrom};
 use chunks::Chunks;
 use chunks::Flag;
+use chunks::Next;
 use chunks::Number;
 use chunks::Piece;
 
@@ -20,15 +21,6 @@ pub fn hand(bytes: usize, position: usize, given: bool) -> Chunks
         position,
         given,
     }
-}
-
-// The message, put back into the fields that C keeps.
-pub fn put_hand(message: Chunks, bytes: &mut usize, position: &mut usize, given: &mut bool)
-    ensures { λ _. ⌜ handFrom (now (bytes .exit)) (now (position .exit)) (now (given .exit)) ≡ handFrom (message .size) (message .position) (message .given) ⌝ }
-{
-    *bytes = message.size;
-    *position = message.position;
-    *given = message.given;
 }
 
 // Yes or no.
@@ -63,21 +55,40 @@ pub fn number(answer: Number, n: &mut usize) -> i32
     }
 }
 
-// The place of a piece, if one comes.
-pub fn piece(answer: Piece, found: &mut bool, start: &mut usize, size: &mut usize) -> i32
-    ensures { λ r. ⌜ told (back r) (pieceFrom (now (found .exit)) (now (start .exit)) (now (size .exit))) ≡ pieceTold answer ⌝ }
+// What a next piece leaves and tells, each number by itself, as C has it.
+pub struct NextPiece {
+    pub bytes: usize,
+    pub position: usize,
+    pub given: bool,
+    pub found: bool,
+    pub start: usize,
+    pub size: usize,
+    pub code: i32,
+}
+
+// The message that is left, and the place of a piece, if one comes.
+pub fn piece(next: Next) -> NextPiece
+    ensures { λ r. ⌜ (handFrom (r .bytes) (r .position) (r .given) ≡ handFrom (next .message .size) (next .message .position) (next .message .given)) × (told (back (r .code)) (pieceFrom (r .found) (r .start) (r .size)) ≡ pieceTold (next .answer)) ⌝ }
 {
-    *found = false;
-    *start = 0;
-    *size = 0;
+    let message = next.message;
+    let mut parts = NextPiece {
+        bytes: message.size,
+        position: message.position,
+        given: message.given,
+        found: false,
+        start: 0,
+        size: 0,
+        code: -1,
+    };
+    let answer = next.answer;
     match answer {
         Piece::At(p) => {
-            *found = true;
-            *start = p.start;
-            *size = p.size;
-            -1
+            parts.found = true;
+            parts.start = p.start;
+            parts.size = p.size;
         }
-        Piece::Nothing => -1,
-        Piece::Refused(k) => k as i32,
+        Piece::Nothing => {}
+        Piece::Refused(k) => parts.code = k as i32,
     }
+    parts
 }

@@ -37,11 +37,7 @@ pub log-noted : {A : Type 0} {t u : Told A} {count bytes dups : ℕ} {p : Payloa
 log-noted {t = t} {count = count} {bytes = bytes} {dups = dups} {p = p} log at tsn ws e f l g h =
     ap (λ (x : List ℕ). tsns.after t (tsnsFrom count bytes dups x ws)) l ∙ counts-left (noted log at (p .dups) tsn) ws e f ∙ ap (leftNoted log at tsn) g ∙ sym h
 
--- .. of reassembly ..
-pub fragments-left : {A : Type 0} {t u : Told A} {p q : ReassemblyQueue} (ws pool : List ℕ) → t ≡ u → p ≡ q → fragments.after t (stateOf p ws pool) ≡ fragments.after u (stateOf q ws pool)
-fragments-left {t = t} {q = q} ws pool e f = ap (λ (x : ReassemblyQueue). fragments.after t (stateOf x ws pool)) f ∙ ap (λ (x : Told _). fragments.after x (stateOf q ws pool)) e
-
--- .. and of a take
+-- .. of a take of reassembly
 pub reads-left : {t u : Told Message} {p q : ReassemblyQueue} (ws pool buffer : List ℕ) → t ≡ u → p ≡ q → fragments.reads t (stateOf p ws pool) buffer ≡ fragments.reads u (stateOf q ws pool) buffer
 reads-left {t} {u} {p} {q} ws pool buffer e f = ap (λ (x : ReassemblyQueue). fragments.reads t (stateOf x ws pool) buffer) f ∙ ap (λ (x : Told Message). fragments.reads x (stateOf q ws pool) buffer) e
 

@@ -8,9 +8,10 @@ use Rattle.sctp_receive.proofs.fragment_calls.sctp_receive_reassembly_q
 
 same : tie.Need-returns
 same c =
-    reads-left _ _ _ (c .taken .ensures) (c .before .before .before .before .before .before .before .put .ensures) ∙ c .before .before .before .before .before .before .before .before .before .before .before .before .before .before .before .before .before .before .before .before .read .ensures
+    let told = c .before .taken .ensures in
+    reads-left _ _ _ (told .1) (told .0) ∙ c .before .before .before .before .before .before .read .ensures
 
 pub sctp-receive-reassembly-queue-read-spec : {M : Type 1} → statement M
 sctp-receive-reassembly-queue-read-spec =
     tie.close
-    (tie.spec (λ c κs. search needs) (λ c κs. search needs) (λ c κs. search needs) (λ c. search needs) (λ c. search needs) same)
+    (tie.spec (λ c κs. search needs) (λ c κs. search needs) (λ c. search needs) (λ c. search needs) same)

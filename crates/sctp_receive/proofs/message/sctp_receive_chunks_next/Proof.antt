@@ -7,8 +7,9 @@ use Rattle.sctp_receive.proofs.message.sctp_receive_chunks_next.Tie as 
 
 same : tie.Need-returns
 same c =
-    let left = c .before .before .before .before .before .before .before .before .before in
-    rw (c .before .before .before .before .put-hand .ensures) (hand-left _ _ _ _ _ (c .piece .ensures) (rw (left .before .hand .ensures) at (left .next .ensures)))
+    let left = c .before .before in
+    let told = c .before .piece .ensures in
+    rw (told .0) (hand-left _ _ _ _ _ (told .1) (rw (left .before .hand .ensures) at (left .next .ensures)))
 
 pub sctp-receive-chunks-next-spec : {M : Type 1} → statement M
-sctp-receive-chunks-next-spec = tie.close (tie.spec (λ c κs. search needs) (λ c κs. search needs) (λ c κs. search needs) (λ c κs. search needs) same)
+sctp-receive-chunks-next-spec = tie.close (tie.spec (λ c κs. search needs) (λ c κs. search needs) (λ c κs. search needs) same)
