@@ -21,7 +21,8 @@ pub extern "C" fn sctp_receive_inflight_queue_new(count: &mut usize, n_bytes: &m
     ensures { λ _. ⌜ flightCounts (now (count .exit)) (now («n_bytes» .exit)) ≡ fresh ⌝ }
 {
     let queue = InFlightQueue::new();
-    sctp_receive_inflight::put(queue, count, n_bytes);
+    *count = queue.count;
+    *n_bytes = queue.n_bytes;
 }
 
 // Stores the chunk by its TSN, without a mark, and the number of its message beside it; 18 where the TSN is held, 8 where no room is left.
@@ -74,7 +75,8 @@ pub extern "C" fn sctp_receive_inflight_queue_mark_as_acked(
     };
     let called = queue.mark_as_acked(table, tsn);
     let left = called.queue;
-    sctp_receive_inflight::put(left, count, n_bytes);
+    *count = left.count;
+    *n_bytes = left.n_bytes;
     let answer = called.answer;
     sctp_receive_tsns::number(answer, released)
 }
@@ -94,7 +96,8 @@ pub extern "C" fn sctp_receive_inflight_queue_mark_all_to_retransmit(
     };
     let called = queue.mark_all_to_retransmit(table);
     let left = called.queue;
-    sctp_receive_inflight::put(left, count, n_bytes);
+    *count = left.count;
+    *n_bytes = left.n_bytes;
     let answer = called.answer;
     sctp_receive_inflight::done(answer)
 }
@@ -117,7 +120,8 @@ pub extern "C" fn sctp_receive_inflight_queue_abandon_message(
     };
     let called = queue.abandon_message(table, messages, message);
     let left = called.queue;
-    sctp_receive_inflight::put(left, count, n_bytes);
+    *count = left.count;
+    *n_bytes = left.n_bytes;
     let answer = called.answer;
     sctp_receive_tsns::number(answer, released)
 }
@@ -153,25 +157,26 @@ pub extern "C" fn sctp_receive_inflight_queue_pop(
     };
     let called = queue.pop(table, messages, wanted);
     let left = called.queue;
-    sctp_receive_inflight::put(left, count, n_bytes);
+    *count = left.count;
+    *n_bytes = left.n_bytes;
     let answer = called.answer;
-    sctp_receive_inflight::sent(
-        answer,
-        found,
-        unordered,
-        beginning_fragment,
-        ending_fragment,
-        immediate_sack,
-        tsn,
-        stream_identifier,
-        stream_sequence_number,
-        payload_type,
-        size,
-        acked,
-        abandoned,
-        retransmit,
-        message_id,
-    )
+    let given = sctp_receive_inflight::sent(answer);
+    let chunk = given.chunk;
+    *found = given.found;
+    *unordered = chunk.unordered;
+    *beginning_fragment = chunk.beginning_fragment;
+    *ending_fragment = chunk.ending_fragment;
+    *immediate_sack = chunk.immediate_sack;
+    *tsn = chunk.tsn;
+    *stream_identifier = chunk.stream_identifier;
+    *stream_sequence_number = chunk.stream_sequence_number;
+    *payload_type = chunk.payload_type;
+    *size = given.size;
+    *acked = given.acked;
+    *abandoned = given.abandoned;
+    *retransmit = given.retransmit;
+    *message_id = given.message_id;
+    given.code
 }
 
 // Drops every TSN at or before this one.
@@ -191,7 +196,8 @@ pub extern "C" fn sctp_receive_inflight_queue_pop_up_to(
     };
     let called = queue.pop_up_to(table, messages, tsn);
     let left = called.queue;
-    sctp_receive_inflight::put(left, count, n_bytes);
+    *count = left.count;
+    *n_bytes = left.n_bytes;
     let answer = called.answer;
     sctp_receive_inflight::done(answer)
 }
@@ -223,23 +229,23 @@ pub extern "C" fn sctp_receive_inflight_queue_get(
 {
     let queue = InFlightQueue { count, n_bytes };
     let answer = queue.get(table, messages, wanted);
-    sctp_receive_inflight::sent(
-        answer,
-        found,
-        unordered,
-        beginning_fragment,
-        ending_fragment,
-        immediate_sack,
-        tsn,
-        stream_identifier,
-        stream_sequence_number,
-        payload_type,
-        size,
-        acked,
-        abandoned,
-        retransmit,
-        message_id,
-    )
+    let given = sctp_receive_inflight::sent(answer);
+    let chunk = given.chunk;
+    *found = given.found;
+    *unordered = chunk.unordered;
+    *beginning_fragment = chunk.beginning_fragment;
+    *ending_fragment = chunk.ending_fragment;
+    *immediate_sack = chunk.immediate_sack;
+    *tsn = chunk.tsn;
+    *stream_identifier = chunk.stream_identifier;
+    *stream_sequence_number = chunk.stream_sequence_number;
+    *payload_type = chunk.payload_type;
+    *size = given.size;
+    *acked = given.acked;
+    *abandoned = given.abandoned;
+    *retransmit = given.retransmit;
+    *message_id = given.message_id;
+    given.code
 }
 
 // The sum of the lengths that are not released.

@@ -24,7 +24,11 @@ pub extern "C" fn sctp_receive_payload_queue_new(
     ensures { λ _. ⌜ tsnCounts (now (count .exit)) (now («n_bytes» .exit)) (now (dups .exit)) (now («dup_tsn» .exit)) ≡ fresh ⌝ }
 {
     let queue = PayloadQueue::new();
-    sctp_receive_tsns::put(queue, count, n_bytes, dups, dup_tsn);
+    *count = queue.count;
+    *n_bytes = queue.n_bytes;
+    *dups = queue.dups;
+    let log = queue.dup_tsn;
+    *dup_tsn = log;
 }
 
 // Whether the TSN is neither held nor at or before the cumulative one.
@@ -117,21 +121,23 @@ pub extern "C" fn sctp_receive_payload_queue_pop(
     let queue = sctp_receive_tsns::of_counts(*count, *n_bytes, *dups);
     let popped = queue.pop(table, wanted);
     let left = popped.queue;
-    sctp_receive_tsns::put_counts(left, count, n_bytes, dups);
+    *count = left.count;
+    *n_bytes = left.n_bytes;
+    *dups = left.dups;
     let answer = popped.answer;
-    sctp_receive_tsns::taken(
-        answer,
-        found,
-        unordered,
-        beginning_fragment,
-        ending_fragment,
-        immediate_sack,
-        tsn,
-        stream_identifier,
-        stream_sequence_number,
-        payload_type,
-        size,
-    )
+    let given = sctp_receive_tsns::taken(answer);
+    let chunk = given.chunk;
+    *found = given.found;
+    *unordered = chunk.unordered;
+    *beginning_fragment = chunk.beginning_fragment;
+    *ending_fragment = chunk.ending_fragment;
+    *immediate_sack = chunk.immediate_sack;
+    *tsn = chunk.tsn;
+    *stream_identifier = chunk.stream_identifier;
+    *stream_sequence_number = chunk.stream_sequence_number;
+    *payload_type = chunk.payload_type;
+    *size = given.size;
+    given.code
 }
 
 // Drops every TSN at or before this one.
@@ -149,7 +155,9 @@ pub extern "C" fn sctp_receive_payload_queue_pop_up_to(
     let queue = sctp_receive_tsns::of_counts(*count, *n_bytes, *dups);
     let dropped = queue.pop_up_to(table, tsn);
     let left = dropped.queue;
-    sctp_receive_tsns::put_counts(left, count, n_bytes, dups);
+    *count = left.count;
+    *n_bytes = left.n_bytes;
+    *dups = left.dups;
     let answer = dropped.answer;
     match answer {
         Done::All => -1,
@@ -202,7 +210,11 @@ pub extern "C" fn sctp_receive_payload_queue_pop_duplicates(
     };
     let handed = queue.pop_duplicates(table);
     let left = handed.queue;
-    sctp_receive_tsns::put(left, count, n_bytes, dups, dup_tsn);
+    *count = left.count;
+    *n_bytes = left.n_bytes;
+    *dups = left.dups;
+    let log = left.dup_tsn;
+    *dup_tsn = log;
     let places = handed.tsns;
     *tsns = places;
     let answer = handed.answer;

@@ -33,19 +33,19 @@ pub extern "C" fn sctp_receive_payload_queue_get(
 {
     let queue = sctp_receive_tsns::of_counts(count, n_bytes, dups);
     let answer = queue.get(table, wanted);
-    sctp_receive_tsns::taken(
-        answer,
-        found,
-        unordered,
-        beginning_fragment,
-        ending_fragment,
-        immediate_sack,
-        tsn,
-        stream_identifier,
-        stream_sequence_number,
-        payload_type,
-        size,
-    )
+    let given = sctp_receive_tsns::taken(answer);
+    let chunk = given.chunk;
+    *found = given.found;
+    *unordered = chunk.unordered;
+    *beginning_fragment = chunk.beginning_fragment;
+    *ending_fragment = chunk.ending_fragment;
+    *immediate_sack = chunk.immediate_sack;
+    *tsn = chunk.tsn;
+    *stream_identifier = chunk.stream_identifier;
+    *stream_sequence_number = chunk.stream_sequence_number;
+    *payload_type = chunk.payload_type;
+    *size = given.size;
+    given.code
 }
 
 // The gap report: starts and ends of its blocks go to the front of the lent lists, and n is their count; 10 where a list is too short.

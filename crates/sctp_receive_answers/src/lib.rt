@@ -1,8 +1,11 @@
-// The TSN queue's answers, taken apart for C: the values go through references, 0 and false beside a refusal, and the result is -1 or the refusal's number.
+// The TSN queue's answers, taken apart for C: one value goes through its reference, a chunk's come back by value; 0 and false beside a refusal, and the result is -1 or
+// the refusal's number.
 ghost use mathlib.Core.Path.{_≡_};
+ghost use Rattle.payload_model.specs.Queue.{nothing};
 ghost use Rattle.payload_model.specs.Answers.{flagTold, numberTold, takenTold};
 ghost use Rattle.sctp_receive_result.specs.Result.{told, back};
 ghost use Rattle.sctp_receive_model.specs.Fields.{valuesFrom, foundFrom};
+use chunk_payload_data::ChunkPayloadData;
 use payload_queue::Flag;
 use payload_queue::Number;
 use payload_queue::Taken;
@@ -39,48 +42,51 @@ pub fn number(answer: Number, n: &mut usize) -> i32
     }
 }
 
+// The result, and each value of a chunk that goes to C through a reference of its own.
+pub struct TakenChunk {
+    pub code: i32,
+    pub found: bool,
+    pub chunk: ChunkPayloadData,
+    pub size: u16,
+}
+
 // A chunk with its data length, if one was found.
-pub fn taken(
-    answer: Taken,
-    found: &mut bool,
-    unordered: &mut bool,
-    beginning_fragment: &mut bool,
-    ending_fragment: &mut bool,
-    immediate_sack: &mut bool,
-    tsn: &mut u32,
-    stream_identifier: &mut u16,
-    stream_sequence_number: &mut u16,
-    payload_type: &mut u32,
-    size: &mut u16,
-) -> i32
-    ensures { λ r. ⌜ told (back r) (foundFrom (now (found .exit)) (valuesFrom (now (unordered .exit)) (now («beginning_fragment» .exit)) (now («ending_fragment» .exit)) (now («immediate_sack» .exit)) (now (tsn .exit)) (now («stream_identifier» .exit)) (now («stream_sequence_number» .exit)) (now («payload_type» .exit))) (now (size .exit))) ≡ takenTold answer ⌝ }
+pub fn taken(answer: Taken) -> TakenChunk
+    ensures { λ r. ⌜ told (back (r .code)) (foundFrom (r .found) (valuesFrom (r .chunk .unordered) (r .chunk .«beginning_fragment») (r .chunk .«ending_fragment») (r .chunk .«immediate_sack») (r .chunk .tsn) (r .chunk .«stream_identifier») (r .chunk .«stream_sequence_number») (r .chunk .«payload_type»)) (r .size)) ≡ takenTold answer ⌝ }
 {
-    *found = false;
-    *unordered = false;
-    *beginning_fragment = false;
-    *ending_fragment = false;
-    *immediate_sack = false;
-    *tsn = 0;
-    *stream_identifier = 0;
-    *stream_sequence_number = 0;
-    *payload_type = 0;
-    *size = 0;
     match answer {
         Taken::Chunk(q) => {
-            let p = q.chunk;
-            *found = true;
-            *unordered = p.unordered;
-            *beginning_fragment = p.beginning_fragment;
-            *ending_fragment = p.ending_fragment;
-            *immediate_sack = p.immediate_sack;
-            *tsn = p.tsn;
-            *stream_identifier = p.stream_identifier;
-            *stream_sequence_number = p.stream_sequence_number;
-            *payload_type = p.payload_type;
-            *size = q.size;
-            -1
+            let chunk = q.chunk;
+            TakenChunk {
+                code: -1,
+                found: true,
+                chunk,
+                size: q.size,
+            }
         }
-        Taken::Nothing => -1,
-        Taken::Refused(k) => k as i32,
+        Taken::Nothing => none_taken(-1),
+        Taken::Refused(k) => none_taken(k as i32),
+    }
+}
+
+// No chunk, beside this result.
+fn none_taken(code: i32) -> TakenChunk
+    ensures { λ r. ⌜ told (back (r .code)) (foundFrom (r .found) (valuesFrom (r .chunk .unordered) (r .chunk .«beginning_fragment») (r .chunk .«ending_fragment») (r .chunk .«immediate_sack») (r .chunk .tsn) (r .chunk .«stream_identifier») (r .chunk .«stream_sequence_number») (r .chunk .«payload_type»)) (r .size)) ≡ told (back code) nothing ⌝ }
+{
+    let chunk = ChunkPayloadData {
+        unordered: false,
+        beginning_fragment: false,
+        ending_fragment: false,
+        immediate_sack: false,
+        tsn: 0,
+        stream_identifier: 0,
+        stream_sequence_number: 0,
+        payload_type: 0,
+    };
+    TakenChunk {
+        code,
+        found: false,
+        chunk,
+        size: 0,
     }
 }

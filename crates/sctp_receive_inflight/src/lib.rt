@@ -1,4 +1,4 @@
-// What the C calls of the in-flight queue are made of: push; the counts put back and the answers taken apart are handed on.
+// What the C calls of the in-flight queue are made of: push; the answers taken apart are handed on.
 ghost use mathlib.Core.Path.{_≡_};
 ghost use Rattle.payload_model.specs.Queue.{rowOf};
 ghost use Rattle.inflight_model.specs.Queue.{after, pushedNoCheck};
@@ -9,7 +9,6 @@ use inflight_queue::InFlightQueue;
 use inflight_queue::TSNS;
 use inflight_queue::WORDS;
 pub use sctp_receive_flight::done;
-pub use sctp_receive_flight::put;
 pub use sctp_receive_sent::sent;
 
 // Stores the chunk by its TSN, and the number of its message beside it; 18 where the TSN is held, 8 where no room is left.
@@ -30,7 +29,8 @@ pub fn push_no_check(
     };
     let pushed = queue.push_no_check(table, messages, chunk, size, message);
     let left = pushed.queue;
-    sctp_receive_flight::put(left, count, n_bytes);
+    *count = left.count;
+    *n_bytes = left.n_bytes;
     let answer = pushed.answer;
     sctp_receive_flight::done(answer)
 }

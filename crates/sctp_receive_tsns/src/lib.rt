@@ -1,4 +1,4 @@
-// What the C calls of the TSN queue are made of: push; the fields that C keeps and the answers taken apart are handed on.
+// What the C calls of the TSN queue are made of: push; the queue of C's counts and the answers taken apart are handed on.
 ghost use mathlib.Core.Path.{_≡_};
 ghost use Rattle.payload_model.specs.Queue.{after, rowOf, pushed};
 ghost use Rattle.sctp_receive_result.specs.Result.{told};
@@ -11,8 +11,6 @@ pub use sctp_receive_answers::number;
 pub use sctp_receive_answers::taken;
 use sctp_receive_counts::note;
 pub use sctp_receive_counts::of_counts;
-pub use sctp_receive_counts::put;
-pub use sctp_receive_counts::put_counts;
 
 // Stores the chunk by its TSN, or logs its TSN where it is held or old; 17 where it is opposite to the cumulative one, 8 where no room is left.
 pub fn push(
@@ -32,7 +30,9 @@ pub fn push(
     let queue = of_counts(*count, *n_bytes, at);
     let pushed = queue.push(table, chunk, size, cumulative);
     let left = pushed.queue;
-    put_counts(left, count, n_bytes, dups);
+    *count = left.count;
+    *n_bytes = left.n_bytes;
+    *dups = left.dups;
     note(dup_tsn, at, left.dups, chunk.tsn);
     let answer = pushed.answer;
     flag(answer, is)

@@ -1,5 +1,6 @@
 -- `sctp_receive_payload_queue_pop` answers and leaves what the call below it does.
 -- Assumes nothing.
+use mathlib.Core.Path.{refl}
 use borrow.Author.Needs.{needs}
 use Rattle.payload_model.specs.Log.{popped-log}
 use Rattle.sctp_receive_model.proofs.Left.{log-kept}
@@ -8,10 +9,9 @@ use Rattle.sctp_receive.proofs.tsns.sctp_receive_payload_queue_pop.Tie 
 
 same : tie.Need-returns
 same c =
-    let left = c .before .before .before .before .before .before .before .before .before .before .before in
-    let call = left .before .before .before .before .before in
+    let call = c .before .before .before .before in
     let start = call .before .before .before .before .before .before in
-    log-kept (start .args .dup-tsn .now) _ (c .taken .ensures) (left .put-counts .ensures) (rw (call .before .before .of-counts .ensures) at (call .pop .ensures)) (popped-log _ _ _)
+    log-kept (start .args .dup-tsn .now) _ (c .before .before .taken .ensures) refl (rw (call .before .before .of-counts .ensures) at (call .pop .ensures)) (popped-log _ _ _)
 
 pub sctp-receive-payload-queue-pop-spec : {M : Type 1} → statement M
-sctp-receive-payload-queue-pop-spec = tie.close (tie.spec (λ c κs. search needs) (λ c κs. search needs) (λ c κs. search needs) (λ c κs. search needs) same)
+sctp-receive-payload-queue-pop-spec = tie.close (tie.spec (λ c κs. search needs) (λ c κs. search needs) (λ c κs. search needs) same)
