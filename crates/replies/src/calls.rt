@@ -4,6 +4,7 @@ use answer_fragments::kept;
 use answer_fragments::kept::POOL;
 use answer_text::operands;
 use answer_text::operands::BYTES;
+use answer_text::out;
 use answer_text::out::SPACE;
 use answer_tsns::flight;
 use answer_tsns::tsns;
@@ -40,7 +41,7 @@ fn kind(call: &[u8]) -> u8 {
     operands::u8_at(&kinds, operands::u8_at(call, 0) as usize)
 }
 
-// A call, and its line up to the line's end.
+// A call, and the end of its line.
 pub fn answered(
     kept: Kept,
     call: &[u8],
@@ -53,16 +54,19 @@ pub fn answered(
     out: &mut [u8; SPACE],
     at: usize,
 ) -> Turn {
-    match kind(call) {
-        b't' => with_tsns(kept, call, tsns, out, at),
-        b'a' => forward_to_tsns(kept, call, tsns, out, at),
+    let turn = match kind(call) {
+        b't' | b'a' => with_tsns(kept, call, tsns, out, at),
         b'i' => with_flight(kept, call, flight, messages, out, at),
-        b'f' => with_fragments(kept, call, table, pool, buffer, out, at),
-        b'o' => forward_to_stream(kept, call, table, pool, out, at),
+        b'f' | b'o' => with_fragments(kept, call, table, pool, buffer, out, at),
         _ => Turn {
             kept,
             at: answer_codecs::call(call, out, at),
         },
+    };
+    let kept = turn.kept;
+    Turn {
+        kept,
+        at: out::byte(out, turn.at, b'\n'),
     }
 }
 
@@ -75,22 +79,10 @@ fn with_tsns(
 ) -> Turn {
     let mut kept = kept;
     let queue = kept.tsns;
-    let turn = tsns::call(queue, call, table, out, at);
-    let queue = turn.queue;
-    kept.tsns = queue;
-    Turn { kept, at: turn.at }
-}
-
-fn forward_to_tsns(
-    kept: Kept,
-    call: &[u8],
-    table: &mut [u32; payload_queue::WORDS],
-    out: &mut [u8; SPACE],
-    at: usize,
-) -> Turn {
-    let mut kept = kept;
-    let queue = kept.tsns;
-    let turn = forward::to_tsns(queue, call, table, out, at);
+    let turn = match kind(call) {
+        b'a' => forward::to_tsns(queue, call, table, out, at),
+        _ => tsns::call(queue, call, table, out, at),
+    };
     let queue = turn.queue;
     kept.tsns = queue;
     Turn { kept, at: turn.at }
@@ -123,23 +115,10 @@ fn with_fragments(
 ) -> Turn {
     let mut kept = kept;
     let fragments = kept.fragments;
-    let turn = answer_fragments::call(fragments, call, table, pool, buffer, out, at);
-    let fragments = turn.kept;
-    kept.fragments = fragments;
-    Turn { kept, at: turn.at }
-}
-
-fn forward_to_stream(
-    kept: Kept,
-    call: &[u8],
-    table: &mut [u32; reassembly_queue::WORDS],
-    pool: &mut [u8; POOL],
-    out: &mut [u8; SPACE],
-    at: usize,
-) -> Turn {
-    let mut kept = kept;
-    let fragments = kept.fragments;
-    let turn = forward::to_stream(fragments, call, table, pool, out, at);
+    let turn = match kind(call) {
+        b'o' => forward::to_stream(fragments, call, table, pool, out, at),
+        _ => answer_fragments::call(fragments, call, table, pool, buffer, out, at),
+    };
     let fragments = turn.kept;
     kept.fragments = fragments;
     Turn { kept, at: turn.at }

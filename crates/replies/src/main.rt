@@ -71,7 +71,7 @@ fn stream(
         );
         let after = turn.kept;
         kept = after;
-        at = end_line(out, turn.at);
+        at = roomy(out, turn.at);
         if u64::MAX <= number {
             return;
         }
@@ -103,9 +103,8 @@ fn end(window: &[u8; WINDOW], view: View, number: u64, out: &mut [u8; SPACE], at
     flush(out, at);
 }
 
-// The line's end. Where little room is left then, what was answered is written out.
-fn end_line(out: &mut [u8; SPACE], at: usize) -> usize {
-    let at = out::byte(out, at, b'\n');
+// Where little room is left, what was answered is written out.
+fn roomy(out: &[u8; SPACE], at: usize) -> usize {
     if at <= SPACE - LINE {
         return at;
     }
