@@ -9,7 +9,7 @@ use reassembly_queue::ReassemblyQueue;
 pub const POOL: usize = 72000;
 
 // The queue, how much is lent of the pool; the message in hand, whether there is one, and how many bytes of its buffer are lent.
-#[derive(Drop)]
+#[derive(Clone, Copy)]
 pub struct Kept {
     pub queue: ReassemblyQueue,
     pub lent: usize,
@@ -19,14 +19,14 @@ pub struct Kept {
 }
 
 // That after a call, and the place behind its line ..
-#[derive(Drop)]
+#[derive(Clone, Copy)]
 pub struct Turn {
     pub kept: Kept,
     pub at: usize,
 }
 
 // .. or what is to be written.
-#[derive(Drop)]
+#[derive(Clone, Copy)]
 pub struct Told {
     pub kept: Kept,
     pub told: Answer,

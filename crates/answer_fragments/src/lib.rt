@@ -1,4 +1,5 @@
 // The calls of the reassembly queue and of the message in hand.
+#![tactic(auto)]
 mod calls;
 mod hand;
 pub mod kept;

@@ -6,7 +6,7 @@ use chunk::Marshalled;
 use data_fields::ChunkPayloadData;
 
 // The flags are a word too.
-#[derive(Drop)]
+#[derive(Clone, Copy)]
 pub struct Answer {
     pub word: u8,
     pub flags: u8,

@@ -7,14 +7,14 @@ use answer_text::{answer, digest, operands};
 use inflight_queue::{Changed, InFlightQueue, Popped, Released, Sent, TSNS, TakenSent, WORDS};
 
 // The queue after a call, and the place behind its line ..
-#[derive(Drop)]
+#[derive(Clone, Copy)]
 pub struct Turn {
     pub queue: InFlightQueue,
     pub at: usize,
 }
 
 // .. or what is to be written.
-#[derive(Drop)]
+#[derive(Clone, Copy)]
 struct Told {
     queue: InFlightQueue,
     told: Answer,

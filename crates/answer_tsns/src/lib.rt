@@ -1,4 +1,5 @@
 // The calls of the TSN queue and of the sender's in-flight queue.
+#![tactic(auto)]
 pub mod flight;
 mod lists;
 mod records;

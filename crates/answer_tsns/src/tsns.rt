@@ -7,14 +7,14 @@ use answer_text::{answer, digest, operands, out};
 use payload_queue::{Dropped, LOG, LastTsn, PayloadQueue, Popped, Queued, Taken, WORDS};
 
 // The queue after a call, and the place behind its line ..
-#[derive(Drop)]
+#[derive(Clone, Copy)]
 pub struct Turn {
     pub queue: PayloadQueue,
     pub at: usize,
 }
 
 // .. or what is to be written.
-#[derive(Drop)]
+#[derive(Clone, Copy)]
 pub struct Told {
     pub queue: PayloadQueue,
     pub told: Answer,

@@ -1,4 +1,5 @@
 // What reading the causes of an ERROR or ABORT chunk is made of: the cause at a place, and the chunk in a cause's value.
+#![tactic(auto)]
 ghost use Rattle.std.specs.Prelude.{◌≤◌, length, drop};
 ghost use Rattle.cause_parts.specs.Fronts.{CauseAt, ChunkAt};
 
@@ -9,13 +10,13 @@ pub const ABORT: u8 = 6;
 pub const ERROR: u8 = 9;
 
 // A cause's code, and its length, which counts these 4 bytes and the value.
-#[derive(Drop)]
+#[derive(Clone, Copy)]
 pub struct CauseHeader {
     pub code: u16,
     pub size: u16,
 }
 
-#[derive(Drop)]
+#[derive(Clone, Copy)]
 pub enum Front {
     Cause(CauseHeader),
     Refused(u8),
@@ -42,7 +43,7 @@ pub fn cause_at(raw: &[u8], at: usize) -> Front
 }
 
 // What a value holds: the causes of a chunk, which end at a place; nothing to follow; or a chunk that is refused.
-#[derive(Drop)]
+#[derive(Clone, Copy)]
 pub enum Held {
     Causes(usize),
     Nothing,

@@ -3,14 +3,14 @@ ghost use Rattle.std.specs.Prelude.{◌≡◌, length};
 ghost use Rattle.chunk.specs.Header.{HeaderFront, header_told, header_read, header_checks, kind_checks, Room};
 
 // Type, flags, and the length, which counts these 4 bytes and the value, not padding.
-#[derive(Drop)]
+#[derive(Clone, Copy)]
 pub struct ChunkHeader {
     pub typ: u8,
     pub flags: u8,
     pub length: u16,
 }
 
-#[derive(Drop)]
+#[derive(Clone, Copy)]
 pub enum Unmarshalled {
     Header(ChunkHeader),
     Refused(u8),

@@ -1,4 +1,5 @@
 // The FORWARD TSN chunk of RFC 3758 section 3.2: read here; an entry of its list, and the chunk written, are handed on.
+#![tactic(auto)]
 ghost use Rattle.std.specs.Prelude.{◌≡◌, length};
 ghost use Rattle.chunk.specs.Header.{HeaderFront, header_told, header_read, Room};
 ghost use Rattle.chunk.specs.Part.{part};
@@ -9,13 +10,13 @@ pub use forward_tsn_entries::{ChunkForwardTsnStream, StreamAt, stream_at};
 pub use forward_tsn_marshal::marshal_to;
 
 // The new cumulative TSN, and how many streams are named behind it.
-#[derive(Drop)]
+#[derive(Clone, Copy)]
 pub struct ChunkForwardTsn {
     pub new_cumulative_tsn: u32,
     pub streams: u16,
 }
 
-#[derive(Drop)]
+#[derive(Clone, Copy)]
 pub enum Unmarshalled {
     Fields(ChunkForwardTsn),
     Refused(u8),

@@ -1,4 +1,5 @@
 // The DATA chunk of RFC 4960 section 3.3.1: its fields read, and the chunk written from them. Its struct, header, user data and flags byte, and the names of identifiers, are handed on.
+#![tactic(auto)]
 ghost use Rattle.std.specs.Prelude.{◌≡◌, ◌≤◌, length};
 ghost use Rattle.wire_model.specs.Refusal.{written};
 ghost use Rattle.chunk.specs.Marshal.{marshal_told};
@@ -10,7 +11,7 @@ pub use data_fields::{ChunkPayloadData, flags_of};
 pub use data_header::{header, user_data};
 pub use payload_identifier::PayloadProtocolIdentifier;
 
-#[derive(Drop)]
+#[derive(Clone, Copy)]
 pub enum Unmarshalled {
     Fields(ChunkPayloadData),
     Refused(u8),

@@ -1,11 +1,12 @@
 // The message in hand: its bytes stand at the front of a lent buffer, and a record says how many they are and how far a piece reader has come.
+#![tactic(auto)]
 ghost use Rattle.std.specs.Prelude.{◌≡◌};
 ghost use Rattle.wire_model.specs.Refusal.{written};
 ghost use Rattle.chunks.specs.Message.{number_told, flag_told, piece_told, unsound, size, is_empty, whole_read, after, next_piece};
 
 // A message: its SSN (0 where it is unordered), its payload identifier as it was sent, its number of bytes, the place of the next piece, and
 // whether an empty message's one piece was given.
-#[derive(Drop)]
+#[derive(Clone, Copy)]
 pub struct Chunks {
     pub ssn: u16,
     pub ppi: u32,
@@ -14,33 +15,33 @@ pub struct Chunks {
     pub given: bool,
 }
 
-#[derive(Drop)]
+#[derive(Clone, Copy)]
 pub enum Number {
     Is(usize),
     Refused(u8),
 }
 
-#[derive(Drop)]
+#[derive(Clone, Copy)]
 pub enum Flag {
     Is(bool),
     Refused(u8),
 }
 
 // Where a piece stands in the buffer.
-#[derive(Drop)]
+#[derive(Clone, Copy)]
 pub struct Part {
     pub start: usize,
     pub size: usize,
 }
 
-#[derive(Drop)]
+#[derive(Clone, Copy)]
 pub enum Piece {
     At(Part),
     Nothing,
     Refused(u8),
 }
 
-#[derive(Drop)]
+#[derive(Clone, Copy)]
 pub struct Next {
     pub answer: Piece,
     pub message: Chunks,

@@ -1,9 +1,10 @@
 // Four numbers that count records by their kind, and stay at the highest value once there: handed in and out by value, or lent and altered where they lie.
+#![tactic(auto)]
 ghost use Rattle.std.specs.Prelude.{◌≡◌};
 ghost use Rattle.counters.specs.Counted.{one_more, fresh, counted_as};
 
 // What became of a record: its chunk was stored, turned away or refused, or the record is cut short.
-#[derive(Drop)]
+#[derive(Clone, Copy)]
 pub enum Kind {
     Stored,
     TurnedAway,
@@ -11,7 +12,7 @@ pub enum Kind {
     Cut,
 }
 
-#[derive(Drop)]
+#[derive(Clone, Copy)]
 pub struct Counters {
     pub stored: u32,
     pub turned_away: u32,

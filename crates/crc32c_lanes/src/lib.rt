@@ -1,4 +1,5 @@
 // Registers that go through bytes: one alone, and several side by side that are then made one.
+#![tactic(auto)]
 ghost use Rattle.std.specs.Prelude.{◌≡◌, ◌*◌, ◌<◌, ◌≤◌, length};
 ghost use Rattle.crc32c_table.specs.Crc.{bit_step, byte_step, through};
 ghost use Rattle.crc32c_table.specs.Table.{Rule};
@@ -37,7 +38,7 @@ pub fn one(words: &[u32; 256], register: u32, bytes: &[u8]) -> u32
 }
 
 // Where four parts end, each but the first from an empty register, and where the highest bit ends after as many zeros.
-#[derive(Drop)]
+#[derive(Clone, Copy)]
 pub struct Ends {
     pub first: u32,
     pub second: u32,

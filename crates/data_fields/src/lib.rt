@@ -1,10 +1,11 @@
 // The fields of a DATA chunk (RFC 4960 section 3.3.1) before its user data, and its flags byte: what the queues hold of a chunk. Reading and writing the chunk
 // is crate `chunk_payload_data`.
+#![tactic(auto)]
 ghost use Rattle.std.specs.Prelude.{◌≡◌, ◌≤◌};
 ghost use Rattle.data_fields.specs.Fields.{data_flags, weighed};
 
 // The fields of a DATA chunk before its user data; the payload identifier is the number as it was sent.
-#[derive(Drop)]
+#[derive(Clone, Copy)]
 pub struct ChunkPayloadData {
     pub unordered: bool,
     pub beginning_fragment: bool,

@@ -1,5 +1,6 @@
 // The causes of an ERROR or ABORT chunk, and of the chunks that they hold: a chunk reader and a cause-list reader that call each other.
 // Each call is on fewer bytes; no other limit of depth is set.
+#![tactic(auto)]
 ghost use Rattle.std.specs.Prelude.{◌≡◌, length, drop};
 ghost use Rattle.cause_parts.specs.Causes.{causes, chunk_held};
 ghost use Rattle.cause_parts.specs.Lists.{noted};
@@ -11,7 +12,7 @@ use cause_parts::{Front, Held};
 const UNRECOGNIZED_CHUNK_TYPE: u16 = 6;
 
 // How many causes are read, or what refuses the first fault.
-#[derive(Drop)]
+#[derive(Clone, Copy)]
 pub enum Counted {
     Causes(usize),
     Refused(u8),

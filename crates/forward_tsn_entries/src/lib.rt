@@ -1,15 +1,16 @@
 // The entries of a FORWARD TSN chunk's list: a stream and an SSN at an index.
+#![tactic(auto)]
 ghost use Rattle.std.specs.Prelude.{◌≡◌};
 ghost use Rattle.forward_tsn_entries.specs.Entries.{PairFront, pair_told, pair_read};
 
 // A stream, and the largest SSN that is skipped in it.
-#[derive(Drop)]
+#[derive(Clone, Copy)]
 pub struct ChunkForwardTsnStream {
     pub identifier: u16,
     pub sequence: u16,
 }
 
-#[derive(Drop)]
+#[derive(Clone, Copy)]
 pub enum StreamAt {
     Stream(ChunkForwardTsnStream),
     Refused(u8),

@@ -1,4 +1,5 @@
 // The first bytes of a buffer, copied to the front of another.
+#![tactic(auto)]
 ghost use Rattle.std.specs.Prelude.{◌≡◌, ◌≤◌, ltb, length, take};
 ghost use Rattle.wire_model.specs.BigEndian.{over};
 

@@ -1,4 +1,5 @@
 // The counts that an in-flight queue starts from.
+#![tactic(auto)]
 ghost use Rattle.std.specs.Prelude.{◌≡◌};
 ghost use Rattle.inflight_model.specs.Queue.{fresh};
 

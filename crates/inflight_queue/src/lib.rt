@@ -1,6 +1,7 @@
 // The sender's in-flight queue: which chunks were sent and not yet taken out, what became of each, and which bytes of them are not released. The
 // crates below have the calls' code: it takes and gives the counts of crate `inflight_model`, which are this crate's struct field by field.
 // A call that neither needs nor changes the numbers of messages is not lent them: its promise is for whatever numbers stand beside the records.
+#![tactic(auto)]
 ghost use Rattle.std.specs.Prelude.{◌≡◌, List, ℕ};
 ghost use Rattle.payload_model.specs.Queue.{row_of};
 ghost use Rattle.payload_model.specs.Answers.{flag_told, number_told, done_told};
@@ -14,25 +15,25 @@ pub use inflight_model::{Sent, TakenSent};
 pub use payload_model::{Done, Flag, Number, Queued, TSNS, WORDS};
 
 // The counts; the records stand in the lent table, and beside them, in the lent list, the number of each one's message.
-#[derive(Drop)]
+#[derive(Clone, Copy)]
 pub struct InFlightQueue {
     pub count: usize,
     pub n_bytes: usize,
 }
 
-#[derive(Drop)]
+#[derive(Clone, Copy)]
 pub struct Changed {
     pub answer: Done,
     pub queue: InFlightQueue,
 }
 
-#[derive(Drop)]
+#[derive(Clone, Copy)]
 pub struct Released {
     pub answer: Number,
     pub queue: InFlightQueue,
 }
 
-#[derive(Drop)]
+#[derive(Clone, Copy)]
 pub struct Popped {
     pub answer: TakenSent,
     pub queue: InFlightQueue,

@@ -1,5 +1,6 @@
 // A window over standard input, in which the next call or record stands whole: where less than the longest one is left, what is left goes to the front and
 // more is read behind it.
+#![tactic(auto)]
 ghost use Rattle.std.specs.Prelude.{◌≡◌, min, length};
 ghost use Rattle.wire_model.specs.BigEndian.{over};
 ghost use Rattle.moves_model.specs.Lists.{slice};
@@ -13,7 +14,7 @@ pub const WINDOW: usize = 262144;
 const LONGEST: usize = 135000;
 
 // How long the call or record is that is looked at (0: there is none), from where to where bytes stand that begin with it, and whether the input ended.
-#[derive(Drop)]
+#[derive(Clone, Copy)]
 pub struct View {
     pub size: usize,
     pub from: usize,

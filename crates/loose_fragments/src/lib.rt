@@ -1,4 +1,5 @@
 // Passes over the records of loose unordered fragments: `from` and n are a segment of the table's rows.
+#![tactic(auto)]
 ghost use Rattle.std.specs.Prelude.{◌≡◌, map, ◌+◌, ◌*◌, ◌/◌, ◌%◌, ◌≤◌, ◌<◌, eqb, length, take, drop};
 ghost use Rattle.table.specs.Rows.{rows_of, ahead_of};
 ghost use Rattle.fragments.specs.Frag.{bare, of_row, tsn_after};
@@ -7,7 +8,7 @@ ghost use Rattle.loose_fragments.specs.Loose.{run_down, run_up, starts_by, scann
 use fragments::long_length;
 
 // A run of rows, from one index up to another; an empty one where there is none.
-#[derive(Drop)]
+#[derive(Clone, Copy)]
 pub struct Span {
     pub from: usize,
     pub to: usize,

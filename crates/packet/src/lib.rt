@@ -1,16 +1,17 @@
 // The common header of a packet: RFC 4960 section 3.1, with the checksum of Appendix B.
+#![tactic(auto)]
 ghost use Rattle.std.specs.Prelude.{◌≡◌, ◌++◌, ◌≤◌, length, take, drop};
 ghost use Rattle.crc32c.specs.Crc.{crc32c, little_endian};
 ghost use Rattle.packet.specs.Header.{CommonFront, common_told, common_read};
 
-#[derive(Drop)]
+#[derive(Clone, Copy)]
 pub struct CommonHeader {
     pub source_port: u16,
     pub destination_port: u16,
     pub verification_tag: u32,
 }
 
-#[derive(Drop)]
+#[derive(Clone, Copy)]
 pub enum Unmarshalled {
     Header(CommonHeader),
     Refused(u8),

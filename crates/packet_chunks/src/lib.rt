@@ -1,17 +1,18 @@
 // The chunks of a packet: behind the common header of 12 bytes, one after the other, each padded to a multiple of 4 bytes.
+#![tactic(auto)]
 ghost use Rattle.std.specs.Prelude.{◌≡◌};
 ghost use Rattle.packet_chunks.specs.Chunks.{step_told, step_at};
 
 use packet_parts::Size;
 
 // A chunk goes up to end, and behind its padding next is the place of what follows.
-#[derive(Drop)]
+#[derive(Clone, Copy)]
 pub struct Found {
     pub end: usize,
     pub next: usize,
 }
 
-#[derive(Drop)]
+#[derive(Clone, Copy)]
 pub enum Step {
     Chunk(Found),
     End,

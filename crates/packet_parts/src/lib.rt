@@ -1,4 +1,5 @@
 // What reading and writing a packet share: the chunk that bytes begin with, its padding, and the order of the checksum's bytes.
+#![tactic(auto)]
 ghost use Rattle.std.specs.Prelude.{◌≡◌, length};
 ghost use Rattle.crc32c.specs.Crc.{little_endian};
 ghost use Rattle.wire_model.specs.BigEndian.{big_endian};
@@ -6,7 +7,7 @@ ghost use Rattle.packet_parts.specs.Fronts.{size_told, size_read, SizeRoom, roun
 
 use chunk::chunk_header;
 
-#[derive(Drop)]
+#[derive(Clone, Copy)]
 pub enum Size {
     Bytes(u16),
     Refused(u8),

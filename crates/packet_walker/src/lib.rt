@@ -1,4 +1,5 @@
 // A walk over the chunks of a packet: the packet and a place in it, kept together, and thin calls over those that take both, two of which are handed on.
+#![tactic(auto)]
 ghost use Rattle.std.specs.Prelude.{◌≡◌};
 ghost use Rattle.packet_chunks.specs.Chunks.{step_told, step_at};
 ghost use Rattle.packet_places.specs.Walk.{lies, bytes_at, place_after};
@@ -6,7 +7,7 @@ ghost use Rattle.packet_places.specs.Walk.{lies, bytes_at, place_after};
 use packet_chunks::Step;
 pub use packet_places::{bytes_at, place_after};
 
-#[derive(Drop)]
+#[derive(Clone, Copy)]
 pub struct Walker<'a> {
     pub packet: &'a [u8],
     pub place: usize,

@@ -1,4 +1,5 @@
 // The counts that a TSN queue starts from.
+#![tactic(auto)]
 ghost use Rattle.std.specs.Prelude.{◌≡◌};
 ghost use Rattle.payload_model.specs.Queue.{fresh};
 

@@ -1,9 +1,10 @@
 // The names of payload identifiers (RFC 8831, section 8).
+#![tactic(auto)]
 ghost use Rattle.std.specs.Prelude.{◌≡◌};
 ghost use Rattle.payload_identifier.specs.Identifier.{identifier_number, identifier_name};
 
 // What a payload identifier says of the user data: five have names. It is a reading of the number alone; what is kept and sent is the number.
-#[derive(Drop)]
+#[derive(Clone, Copy)]
 pub enum PayloadProtocolIdentifier {
     Dcep,
     String,

@@ -1,5 +1,6 @@
 // The TSN queue: which TSNs came, in which order they stand, and which came twice. The crates below have the calls' code: it takes and gives
 // the counts of crate `payload_model`, which are this crate's struct field by field.
+#![tactic(auto)]
 ghost use Rattle.std.specs.Prelude.{◌≡◌};
 ghost use Rattle.payload_model.specs.Queue.{after, row_of, pushed, can_push, popped, popped_up_to, popped_duplicates, got, contains_stream, counted, is_empty, num_bytes, last_tsn};
 ghost use Rattle.payload_model.specs.GapCall.{lists, gap_report};
@@ -11,7 +12,7 @@ use payload_model::Counts;
 pub use payload_model::{Done, Flag, LOG, LastTsn, Number, Queued, TSNS, Taken, WORDS};
 
 // The counts and the log of duplicates; the records stand in the lent table.
-#[derive(Drop)]
+#[derive(Clone, Copy)]
 pub struct PayloadQueue {
     pub count: usize,
     pub n_bytes: usize,
@@ -19,26 +20,26 @@ pub struct PayloadQueue {
     pub dup_tsn: [u32; LOG],
 }
 
-#[derive(Drop)]
+#[derive(Clone, Copy)]
 pub struct Pushed {
     pub answer: Flag,
     pub queue: PayloadQueue,
 }
 
-#[derive(Drop)]
+#[derive(Clone, Copy)]
 pub struct Popped {
     pub answer: Taken,
     pub queue: PayloadQueue,
 }
 
-#[derive(Drop)]
+#[derive(Clone, Copy)]
 pub struct Dropped {
     pub answer: Done,
     pub queue: PayloadQueue,
 }
 
 // All places of the log, unused ones 0, beside their count.
-#[derive(Drop)]
+#[derive(Clone, Copy)]
 pub struct Duplicates {
     pub answer: Number,
     pub tsns: [u32; LOG],

@@ -1,4 +1,5 @@
 // How far an ordered skip that is held over a stream reset applies by now.
+#![tactic(auto)]
 ghost use Rattle.std.specs.Prelude.{◌≡◌, List, ℕ, ◌*◌, ◌≤◌, length};
 ghost use Rattle.wire_model.specs.Refusal.{none, says};
 ghost use Rattle.reassembly_state.specs.Limits.{frags_most};
@@ -11,7 +12,7 @@ mod part;
 use reassembly_state::{Counts, WORDS};
 
 // The SSN up to which a skip applies, if there is one.
-#[derive(Drop)]
+#[derive(Clone, Copy)]
 pub enum Applicable {
     Ssn(u16),
     Nothing,

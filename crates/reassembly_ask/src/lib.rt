@@ -1,4 +1,5 @@
 // What a push of an ordered chunk is asked: its size, its SSN, its TSN, room.
+#![tactic(auto)]
 ghost use Rattle.std.specs.Prelude.{◌≡◌, false, List, ℕ, ◌+◌, ◌*◌, ◌≤◌, ltb, length, take, drop};
 ghost use Rattle.table.specs.Rows.{rows_of, total};
 ghost use Rattle.fragments.specs.Frag.{long_length};
@@ -28,7 +29,7 @@ fn too_large(queue: Counts, table: &[u32], at: usize, run: usize, more: usize) -
 }
 
 // What an ordered push is answered, and whether it is kept; where its set stands, and how many rows that has, 0 where there is none.
-#[derive(Drop)]
+#[derive(Clone, Copy)]
 pub struct Asked {
     pub answer: Flag,
     pub keep: bool,

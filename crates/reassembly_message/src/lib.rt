@@ -1,4 +1,5 @@
 // A message taken out from among the held fragments, where the lent buffer has room for it.
+#![tactic(auto)]
 ghost use Rattle.std.specs.Prelude.{◌≡◌, ◌+◌, ◌*◌, ◌≤◌, ◌<◌, length, take};
 ghost use Rattle.table.specs.Rows.{rows_of, total};
 ghost use Rattle.fragments.specs.Frag.{long_length};
@@ -10,7 +11,7 @@ ghost use Rattle.reassembly_state.specs.Answers.{took_told};
 use reassembly_state::{FRAGMENTS, Took};
 
 // What taking a message from among other fragments answers, and how many fragments and bytes went: none where it is refused.
-#[derive(Drop)]
+#[derive(Clone, Copy)]
 pub struct Among {
     pub answer: Took,
     pub k: usize,

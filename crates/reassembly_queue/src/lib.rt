@@ -1,5 +1,6 @@
 // Fragments to messages, for one stream. What is taken is a message in hand (crate chunks). The crates below have the calls' code: it takes
 // and gives the counts of crate `reassembly_state`, which are this crate's struct field by field.
+#![tactic(auto)]
 ghost use Rattle.std.specs.Prelude.{◌≡◌};
 ghost use Rattle.chunks.specs.Message.{flag_told, number_told};
 ghost use Rattle.reassembly_state.specs.State.{after, pushed, is_readable, reads, read, forward_ordered, forward_unordered, num_bytes};
@@ -17,7 +18,7 @@ pub use reassembly_state::{BYTES, Done, FRAGMENTS, Took, WORDS};
 
 // The counts; the records stand in the lent table and their bytes in the lent pool: finished unordered messages, oldest first, then loose
 // unordered fragments, then ordered sets.
-#[derive(Drop)]
+#[derive(Clone, Copy)]
 pub struct ReassemblyQueue {
     pub si: u16,
     pub next_ssn: u16,
@@ -28,19 +29,19 @@ pub struct ReassemblyQueue {
     pub n_bytes: usize,
 }
 
-#[derive(Drop)]
+#[derive(Clone, Copy)]
 pub struct Pushed {
     pub answer: Flag,
     pub queue: ReassemblyQueue,
 }
 
-#[derive(Drop)]
+#[derive(Clone, Copy)]
 pub struct Taken {
     pub answer: Took,
     pub queue: ReassemblyQueue,
 }
 
-#[derive(Drop)]
+#[derive(Clone, Copy)]
 pub struct Forwarded {
     pub answer: Done,
     pub queue: ReassemblyQueue,

@@ -1,5 +1,6 @@
 // The state of a reassembly queue, of one stream: its counts, what is asked of them before anything else, and what every call's answer is.
 // The calls of crate `reassembly_queue` take and give the same counts.
+#![tactic(auto)]
 ghost use Rattle.std.specs.Prelude.{◌≡◌, ◌*◌, length};
 ghost use Rattle.reassembly_state.specs.Limits.{frags_most};
 ghost use Rattle.chunks.specs.Message.{number_told};
@@ -17,7 +18,7 @@ pub const WORDS: usize = 4 * FRAGMENTS;
 
 // The counts of a queue; the records stand in the lent table and their bytes in the lent pool: finished unordered messages, oldest first, then loose
 // unordered fragments, then ordered sets.
-#[derive(Drop)]
+#[derive(Clone, Copy)]
 pub struct Counts {
     pub si: u16,
     pub next_ssn: u16,
@@ -28,32 +29,32 @@ pub struct Counts {
     pub n_bytes: usize,
 }
 
-#[derive(Drop)]
+#[derive(Clone, Copy)]
 pub enum Took {
     Message(Chunks),
     Nothing,
     Refused(u8),
 }
 
-#[derive(Drop)]
+#[derive(Clone, Copy)]
 pub enum Done {
     All,
     Refused(u8),
 }
 
-#[derive(Drop)]
+#[derive(Clone, Copy)]
 pub struct Pushed {
     pub answer: Flag,
     pub queue: Counts,
 }
 
-#[derive(Drop)]
+#[derive(Clone, Copy)]
 pub struct Taken {
     pub answer: Took,
     pub queue: Counts,
 }
 
-#[derive(Drop)]
+#[derive(Clone, Copy)]
 pub struct Forwarded {
     pub answer: Done,
     pub queue: Counts,

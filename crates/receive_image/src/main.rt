@@ -1,5 +1,6 @@
 // The main job: an image comes in segments over SCTP, out of order, one of them twice and one late. After each arrival the program shows
 // the cumulative TSN, the gap report and the SACK that acknowledges what is held; in the end the image as it is taken.
+#![tactic(auto)]
 mod receiver;
 mod segment;
 mod show;

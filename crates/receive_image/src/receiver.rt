@@ -5,7 +5,7 @@ use data_fields::ChunkPayloadData;
 use payload_queue::{Flag, PayloadQueue, Taken};
 use reassembly_queue::ReassemblyQueue;
 
-#[derive(Drop)]
+#[derive(Clone, Copy)]
 pub struct Receiver {
     pub tsns: PayloadQueue,
     pub fragments: ReassemblyQueue,

@@ -1,11 +1,12 @@
 // A file of captured chunks: a version byte at its front, and then records, each the length of a chunk and the chunk.
+#![tactic(auto)]
 ghost use Rattle.std.specs.Prelude.{◌≡◌};
 ghost use Rattle.replay_file.specs.File.{versioned, start, record_told, records_most};
 
 pub const VERSION: u8 = 1;
 
 // What stands where a record should start: no byte any more, a record cut short, or a chunk of so many bytes behind its length.
-#[derive(Drop)]
+#[derive(Clone, Copy)]
 pub enum Record {
     Nothing,
     Cut,

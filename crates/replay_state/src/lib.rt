@@ -1,4 +1,5 @@
 // A replay between its records: as it starts, and the line of what it counted.
+#![tactic(auto)]
 ghost use Rattle.std.specs.Prelude.{◌≡◌};
 ghost use Rattle.replay_lines.specs.Behind.{Put};
 ghost use Rattle.replay_lines.specs.Lines.{total_line};
@@ -9,7 +10,7 @@ use payload_queue::PayloadQueue;
 use replay_lines::LINE;
 
 // The number of the next record, the TSN queue whose table is lent, and what was counted.
-#[derive(Drop)]
+#[derive(Clone, Copy)]
 pub struct Replay {
     pub number: u64,
     pub queue: PayloadQueue,

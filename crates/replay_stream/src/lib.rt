@@ -1,5 +1,6 @@
 // A replay of the captured chunks on standard input, its lines on standard output. What is decided stands in `replay_step`: here bytes are only brought to
 // it and taken from it.
+#![tactic(auto)]
 use answer_text::out::SPACE;
 use answer_text::{operands, out};
 use input::{View, WINDOW};

@@ -1,4 +1,5 @@
 // What a record makes of a replay: its line, and the replay behind it.
+#![tactic(auto)]
 ghost use Rattle.std.specs.Prelude.{◌≡◌, ℕ, List};
 ghost use Rattle.payload_model.specs.Answers.{flag_told};
 ghost use Rattle.replay_state.specs.State.{state_of};
@@ -10,7 +11,7 @@ use replay_lines::LINE;
 use replay_state::Replay;
 
 // Whether there may be more records, how many bytes this one took, how many stand in the line, and the replay behind it.
-#[derive(Drop)]
+#[derive(Clone, Copy)]
 pub struct Turn {
     pub more: bool,
     pub taken: usize,

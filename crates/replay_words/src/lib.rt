@@ -1,4 +1,5 @@
 // What the lines of a replay are made of: bytes, numbers and answers, each put behind the first bytes of a lent buffer.
+#![tactic(auto)]
 ghost use Rattle.std.specs.Prelude.{◌++◌, ◌+◌, ◌≤◌, length};
 ghost use Rattle.payload_model.specs.Answers.{flag_told};
 ghost use Rattle.replay_words.specs.Behind.{Behind};

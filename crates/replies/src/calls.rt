@@ -10,7 +10,7 @@ use inflight_queue::InFlightQueue;
 use payload_queue::PayloadQueue;
 
 // What goes on from call to call beside the tables, the numbers of messages, the pool and the buffer.
-#[derive(Drop)]
+#[derive(Clone, Copy)]
 pub struct Kept {
     pub tsns: PayloadQueue,
     pub flight: InFlightQueue,
@@ -18,7 +18,7 @@ pub struct Kept {
 }
 
 // That after a call, and the place behind its line.
-#[derive(Drop)]
+#[derive(Clone, Copy)]
 pub struct Turn {
     pub kept: Kept,
     pub at: usize,

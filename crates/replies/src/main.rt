@@ -1,4 +1,5 @@
 // Reads calls from standard input, does each on the proved libraries, and writes one line for it: docs/CALLS.md.
+#![tactic(auto)]
 mod calls;
 mod forward;
 

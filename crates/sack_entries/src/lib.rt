@@ -1,20 +1,21 @@
 // The entries of a SACK chunk's lists: gap ack blocks and duplicate TSNs, each at an index.
+#![tactic(auto)]
 ghost use Rattle.std.specs.Prelude.{◌≡◌};
 ghost use Rattle.sack_entries.specs.Entries.{BlockFront, block_told, block_read, TsnFront, tsn_told, tsn_read};
 
-#[derive(Drop)]
+#[derive(Clone, Copy)]
 pub struct GapAckBlock {
     pub start: u16,
     pub end: u16,
 }
 
-#[derive(Drop)]
+#[derive(Clone, Copy)]
 pub enum GapAckBlockAt {
     Block(GapAckBlock),
     Refused(u8),
 }
 
-#[derive(Drop)]
+#[derive(Clone, Copy)]
 pub enum DuplicateTsnAt {
     Tsn(u32),
     Refused(u8),

@@ -1,11 +1,12 @@
 // The fields of a SACK chunk (RFC 4960 section 3.3.4), read.
+#![tactic(auto)]
 ghost use Rattle.std.specs.Prelude.{◌≡◌, ◌≤◌, length};
 ghost use Rattle.sack_fields.specs.Sack.{sack_held, sack_told, SackFront, sack_read, Lists};
 
 use chunk::chunk_header;
 
 // The fields of a SACK chunk before its lists, with N and X, the counts of the two lists.
-#[derive(Drop)]
+#[derive(Clone, Copy)]
 pub struct ChunkSelectiveAck {
     pub cumulative_tsn_ack: u32,
     pub advertised_receiver_window_credit: u32,
@@ -13,7 +14,7 @@ pub struct ChunkSelectiveAck {
     pub duplicate_tsns: u16,
 }
 
-#[derive(Drop)]
+#[derive(Clone, Copy)]
 pub enum Unmarshalled {
     Fields(ChunkSelectiveAck),
     Refused(u8),

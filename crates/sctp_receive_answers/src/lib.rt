@@ -1,5 +1,6 @@
 // The TSN queue's answers, taken apart for C: one value goes through its reference, a chunk's come back by value; 0 and false beside a refusal, and the result is -1 or
 // the refusal's number.
+#![tactic(auto)]
 ghost use Rattle.std.specs.Prelude.{◌≡◌};
 ghost use Rattle.payload_model.specs.Queue.{nothing};
 ghost use Rattle.payload_model.specs.Answers.{flag_told, number_told, taken_told};
@@ -42,7 +43,7 @@ pub fn number(answer: Number, n: &mut usize) -> i32
 }
 
 // The result, and each value of a chunk that goes to C through a reference of its own.
-#[derive(Drop)]
+#[derive(Clone, Copy)]
 pub struct TakenChunk {
     pub code: i32,
     pub found: bool,

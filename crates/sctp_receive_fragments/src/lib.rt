@@ -1,4 +1,5 @@
 // What the C calls of reassembly are made of: the answers, taken apart: the values, 0 and false beside a refusal, and the result, -1 or the refusal's number.
+#![tactic(auto)]
 ghost use Rattle.std.specs.Prelude.{◌≡◌};
 ghost use Rattle.reassembly_state.specs.Answers.{took_told};
 ghost use Rattle.reassembly_applicable.specs.Answers.{applicable_told};
@@ -8,7 +9,7 @@ ghost use Rattle.sctp_receive_model.specs.States.{fragment_counts, message_from,
 use reassembly_queue::{Applicable, Taken, Took};
 
 // What a take leaves and tells, each number by itself, as C has it: storing these one by one is cheaper to prove than lending C's places on.
-#[derive(Drop)]
+#[derive(Clone, Copy)]
 pub struct TakenMessage {
     pub si: u16,
     pub next_ssn: u16,

@@ -1,4 +1,5 @@
 // A chunk of the in-flight queue, taken apart for C: 0 and false beside a refusal and beside nothing, and the result is -1 or the refusal's number.
+#![tactic(auto)]
 ghost use Rattle.std.specs.Prelude.{◌≡◌};
 ghost use Rattle.inflight_model.specs.Answers.{taken_told};
 ghost use Rattle.inflight_model.specs.Queue.{nothing_sent};
@@ -10,7 +11,7 @@ use data_fields::ChunkPayloadData;
 use inflight_queue::TakenSent;
 
 // The result, and each value that goes to C through a reference of its own.
-#[derive(Drop)]
+#[derive(Clone, Copy)]
 pub struct SentChunk {
     pub code: i32,
     pub found: bool,

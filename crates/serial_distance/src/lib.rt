@@ -1,4 +1,5 @@
 // The signed distance between numbers that wrap.
+#![tactic(auto)]
 ghost use Rattle.std.specs.Prelude.{◌≡◌};
 ghost use Rattle.serial_model.specs.Serial.{distance};
 

@@ -1,9 +1,10 @@
 // Numbers that wrap: TSNs of 32 bits, SSNs of 16. What each call of `serial` answers is stated once over the width, in specs/Serial.antt.
+#![tactic(auto)]
 ghost use Rattle.std.specs.Prelude.{◌≡◌};
 ghost use Rattle.serial_model.specs.Compared.{is_before};
 
 // How a number stands to another. Opposite: the distance is the lowest value, as far one way as the other, and neither is before the other.
-#[derive(Drop)]
+#[derive(Clone, Copy)]
 pub enum Order {
     Earlier,
     Same,

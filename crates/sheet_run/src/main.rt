@@ -1,5 +1,6 @@
 // Runs the bench sheet of document 01 on the code: the sheet comes with a blank, %, for each answer, and goes out with what the calls answer in them.
 // Crate `sheet` states the same lines of the definitions.
+#![tactic(auto)]
 mod arrivals;
 mod data_chunk;
 mod full;

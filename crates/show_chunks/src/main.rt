@@ -1,5 +1,6 @@
 // Reads chunks, prints what they say, and writes them again. The bytes and the fields are those of document 01, "Bench sheet", and of
 // RFC 4960 section 3.3.4.
+#![tactic(auto)]
 mod outcome;
 mod show_data;
 mod show_sack;

@@ -1,4 +1,5 @@
 // What every call on eight streams asks of their counts: how much stands before a stream and behind it, whether they are sound.
+#![tactic(auto)]
 ghost use Rattle.std.specs.Prelude.{◌≡◌, suc, ◌-◌, ◌*◌, ◌≤◌, ◌<◌, ltb, length, take, drop};
 ghost use Rattle.reassembly_state.specs.Limits.{frags_most};
 ghost use Rattle.reassembly_state.specs.State.{count};
@@ -10,7 +11,7 @@ use reassembly_state::{BYTES, Counts, FRAGMENTS};
 use streams_model::{STREAMS, Streams};
 
 // So many fragments, and so many bytes.
-#[derive(Drop)]
+#[derive(Clone, Copy)]
 pub struct Sum {
     pub rows: usize,
     pub bytes: usize,

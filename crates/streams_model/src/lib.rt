@@ -1,4 +1,5 @@
 // Eight streams that share one table and one pool (document 02, M-112): their counts, one behind the other, and what every call's answer is.
+#![tactic(auto)]
 ghost use Rattle.std.specs.Prelude.{◌≡◌, ◌<◌, get_or, set};
 ghost use Rattle.streams_model.specs.Limits.{streams_most};
 ghost use Rattle.streams_model.specs.Shape.{queues_of, no_counts, fresh_streams};
@@ -21,7 +22,7 @@ pub const COMMON_BYTES: usize = 32768;
 
 // The counts of the eight; the records stand in the lent table and their bytes in the lent pool, stream after stream, each stream's as its queue
 // alone would hold them.
-#[derive(Drop)]
+#[derive(Clone, Copy)]
 pub struct Streams {
     pub s0: Counts,
     pub s1: Counts,
@@ -33,19 +34,19 @@ pub struct Streams {
     pub s7: Counts,
 }
 
-#[derive(Drop)]
+#[derive(Clone, Copy)]
 pub struct Pushed {
     pub answer: Flag,
     pub streams: Streams,
 }
 
-#[derive(Drop)]
+#[derive(Clone, Copy)]
 pub struct Taken {
     pub answer: Took,
     pub streams: Streams,
 }
 
-#[derive(Drop)]
+#[derive(Clone, Copy)]
 pub struct Forwarded {
     pub answer: Done,
     pub streams: Streams,

@@ -1,4 +1,5 @@
 // One stream among the others: its counts with the others' in them, and its own again.
+#![tactic(auto)]
 ghost use Rattle.std.specs.Prelude.{◌≡◌, ◌+◌, ◌*◌, ◌≤◌, ◌<◌, set};
 ghost use Rattle.reassembly_state.specs.Limits.{frags_most};
 ghost use Rattle.reassembly_state.specs.State.{count};
@@ -39,7 +40,7 @@ fn counts_alone(queue: Counts, before: Sum, behind: Sum) -> Counts
 }
 
 // What stands before a stream's own and what stands behind them, and its counts with both in them.
-#[derive(Drop)]
+#[derive(Clone, Copy)]
 pub struct Among {
     pub before: Sum,
     pub behind: Sum,

@@ -1,5 +1,6 @@
 // Eight streams in one pool, run: what one stream may hold, what each of the others is sure of then, and what comes free. The calls are those that
 // `reassembly_streams` hands on.
+#![tactic(auto)]
 ghost use Rattle.std.specs.Prelude.{◌≤◌};
 
 use chunks::{Flag, Number};

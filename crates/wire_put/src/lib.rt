@@ -1,4 +1,5 @@
 // Big-endian fields, and bytes, written at the front of a lent slice.
+#![tactic(auto)]
 ghost use Rattle.std.specs.Prelude.{◌≡◌, ◌≤◌, length};
 ghost use Rattle.wire_model.specs.BigEndian.{big_endian, over};
 

@@ -1,4 +1,5 @@
 // Moves of words inside a lent slice, by absolute places.
+#![tactic(auto)]
 ghost use Rattle.std.specs.Prelude.{◌≡◌, [], ◌∷◌, ◌+◌, ◌≤◌, ◌<◌, length, take};
 ghost use Rattle.wire_model.specs.BigEndian.{over};
 ghost use Rattle.moves_model.specs.Lists.{put, gone, reversed, turned};
