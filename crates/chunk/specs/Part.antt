@@ -16,4 +16,4 @@ part k r = record { refusal = k; bytes = r.now; place = r.ref_ptr }
 -- "a part of the caller's own chunk, .. not copied; on a refusal the part is empty": size bytes from byte start on; 255 is no refusal's number
 abbrev pub part_of : Refusal → ℕ → ℕ → Bor (List ℕ) → Part
 part_of none start size raw = record { refusal = 255; bytes = take size (drop start raw.now); place = (raw.ref_ptr.0, start + raw.ref_ptr.1) }
-part_of (refuse k) start size raw = record { refusal = k; bytes = []; place = raw.ptr }
+part_of (refuse k) start size raw = record { refusal = k; bytes = []; place = raw.ref_ptr }

@@ -15,7 +15,7 @@ lies r = record { bytes = r.now; place = r.ref_ptr }
 -- a chunk goes from its place up to its end; where there is none the part is empty
 abbrev pub spot_bytes : Bor (List ℕ) → ℕ → Spot → Lies
 spot_bytes packet at (chunk end next) = record { bytes = take (end - at) (drop at packet.now); place = (packet.ref_ptr.0, at + packet.ref_ptr.1) }
-spot_bytes packet at finished = record { bytes = []; place = packet.ptr }
+spot_bytes packet at finished = record { bytes = []; place = packet.ref_ptr }
 
 unfoldable pub bytes_at : Bor (List ℕ) → ℕ → Lies
 bytes_at packet at = spot_bytes packet at (step_at packet.now at).values

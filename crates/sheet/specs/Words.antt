@@ -73,11 +73,11 @@ module _ (lent : MutBor (List ℕ)) where
 
   -- not refused: these bytes, which lie from byte start on
   abbrev pub part-from : ℕ → List ℕ → Part
-  part-from start bs = record { refusal = 255; bytes = bs; place = (lent.ptr.0, start + lent.ptr.1) }
+  part-from start bs = record { refusal = 255; bytes = bs; place = (lent.ref_ptr.0, start + lent.ref_ptr.1) }
 
   -- refused with k: an empty part
   abbrev pub no_part : ℕ → Part
-  no_part k = record { refusal = k; bytes = []; place = lent.ptr }
+  no_part k = record { refusal = k; bytes = []; place = lent.ref_ptr }
 
 -- ── chunks that are pushed, all of stream 0 and identifier 51 ──
 

@@ -1,0 +1,12 @@
+-- `fragment_sets::find_end` meets its contract: the rows ahead are those passed and those ahead in the rest.
+use Prim.Native.Nat.{◌-◌}
+use Rattle.table.specs.Rows.{rows_of}
+use Rattle.table.proofs.Scans.{Sought}
+use Rattle.fragments.specs.Frag.{of_row, ends}
+use Rattle.fragment_sets.proofs.find_end.Given as goal
+
+abbrev pub invariant-loop-i : goal.invariant-loop-i
+invariant-loop-i l = Sought (of_row ends) (rows_of l.size l.table) l.from l.n l.i
+
+abbrev pub decreases-loop-i : goal.decreases-loop-i
+decreases-loop-i l = l.n - l.i

@@ -1,0 +1,12 @@
+-- `payload_counts::len` meets its contract: an unsound queue is refused, and else the held records say.
+use mathlib.Core.Path.{sym, ◌∙◌}
+use Rattle.payload_model.specs.Queue.{counted}
+use Rattle.payload_counts.proofs.len.Goals as goal
+
+pub returns-then-unsound : goal.returns-then-unsound
+unfolding counted
+returns-then-unsound c = rw (sym c.unsound.ensures ∙ c.if-unsound.true)
+
+pub returns : goal.returns
+unfolding counted
+returns c = rw (sym c.unsound.ensures ∙ c.if-unsound.false)

@@ -1,0 +1,40 @@
+-- `reassembly_message::take_among` meets its contract: the run is measured, and where the buffer is long enough it is taken.
+use Prim.Native.Nat.{◌≤◌}
+use native.Mathlib.Omega.{arith}
+use lib.ListN.{length, take}
+use Rattle.table.specs.Rows.{rows_of}
+use Rattle.fragments.proofs.Pool.{B}
+use Rattle.reassembly_state.specs.Limits.{frags_most}
+use Rattle.reassembly_turn.proofs.Messages.{out_none, out-whole}
+use Rattle.reassembly_message.proofs.take_among.Goals as goal
+
+pub returns-then-buffer-size : goal.returns-then-buffer-size
+returns-then-buffer-size c =
+    let rows = rows_of frags_most c.args.table.now in
+    let fits : B (take c.args.held rows) ≤ length c.args.pool.now = omega (arith, c.requires) in
+    let a = c.args in
+    out_none rows a.pool.now a.held a.from a.k c.requires.k_bound fits a.ordered a.buffer.now (rw c.sum_long-size.ensures at c.if-buffer-size.true)
+
+pub take_run-hand-requires : goal.take_run-hand-requires
+take_run-hand-requires c =
+    let p = c.requires in
+    let q = p.1.1.1.1 in
+    record {
+      table_len = omega arith;
+      held_le_frags_most = p.held_le_frags_most;
+      k_bound = p.k_bound;
+      k_nonzero = p.k_nonzero;
+      table_value = q.0;
+      bytes_in_bounds = q.1.0;
+      off_value = q.1.1;
+      size_value = c.sum_long-size.ensures;
+      size_in_bounds = c.if-buffer-size.false;
+    }
+
+pub returns : goal.returns
+returns c =
+    let rows = rows_of frags_most c.args.table.now in
+    let fits : B (take c.args.held rows) ≤ length c.args.pool.now = omega (arith, c.requires) in
+    let a = c.args in
+    let t = c.take_run-hand.ensures in
+    out-whole rows a.pool.now a.held a.from a.k c.requires.k_bound fits a.ordered a.buffer.now c.sum_long-size.ensures c.if-buffer-size.false t.result_value t.table_after t.pool_after t.buffer_after

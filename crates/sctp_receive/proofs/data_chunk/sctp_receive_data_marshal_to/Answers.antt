@@ -1,0 +1,5 @@
+-- `sctp_receive_data_marshal_to` answers and leaves what the call below it does.
+use Rattle.sctp_receive.proofs.data_chunk.sctp_receive_data_marshal_to.Goals as goal
+
+pub returns : goal.returns
+returns c = rw c.marshalled.ensures c.marshal_to-answer.ensures

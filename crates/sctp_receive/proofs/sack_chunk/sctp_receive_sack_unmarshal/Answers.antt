@@ -1,0 +1,12 @@
+-- `sctp_receive_sack_unmarshal` answers what the call below it does.
+use native.Mathlib.Omega.{arith}
+use Rattle.sctp_receive_result.proofs.Codes.{says_refuse}
+use Rattle.chunk_selective_ack.specs.Sack.{sack_held}
+use Rattle.sctp_receive.proofs.sack_chunk.sctp_receive_sack_unmarshal.Goals as goal
+
+pub returns-in-Fields : goal.returns-in-Fields
+unfolding sack_held
+returns-in-Fields c = rw (← (c.unmarshal-answer.ensures f), c.in-Fields.is)
+
+pub returns-in-Refused : goal.returns-in-Refused
+returns-in-Refused c = rw (← (c.unmarshal-answer.ensures f), c.in-Refused.is, says_refuse c.in-Refused.k (omega arith))

@@ -1,0 +1,5 @@
+-- `sctp_receive_causes::error_unmarshal` leaves in the lists what the call below it does, and its count apart from its refusal.
+use Rattle.sctp_receive_causes.proofs.error_unmarshal.Goals as goal
+
+pub returns : goal.returns
+returns c = rw c.counted.ensures c.unmarshal-answer.ensures

@@ -1,0 +1,10 @@
+-- `word_moves::close_words` meets its contract: the loop keeps `Closing`.
+use Prim.Native.Nat.{◌≤◌, ◌-◌}
+use Rattle.moves_model.proofs.Moves.{Closing}
+use Rattle.word_moves.proofs.close_words.Given as goal
+
+abbrev pub invariant-loop-i : goal.invariant-loop-i
+invariant-loop-i l = Closing l.initial.col l.n l.at l.k l.col l.i × (l.at ≤ l.i) × (l.i ≤ l.n - l.k)
+
+abbrev pub decreases-loop-i : goal.decreases-loop-i
+decreases-loop-i l = l.n - l.i
