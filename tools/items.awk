@@ -67,6 +67,7 @@ function place_of(path,    c, k, parts, i, mods, rest) {
 
 # `use PATH.{a, b as c}`, `use PATH as x`, `use PATH`; `pub use PATH.{a}` hands a on, and in a Lib.antt `pub use PATH` the module
 function import(s,    path, list, k, names, i, from, to, w, p, pub) {
+    if (s ~ /Rattle·/) fail("a path in an older Rattle's spelling: " s)
     pub = s ~ /^(unfoldable )?pub /
     sub(/^(ghost|unfoldable|pub) +/, "", s); sub(/^pub +/, "", s); sub(/^use +/, "", s); sub(/;? *$/, "", s)
     if (s ~ /\.\*$/) fail("use of all names")
