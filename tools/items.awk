@@ -6,7 +6,7 @@
 # unfoldable, record, data), pub-stated or stated (anything else that has a type), axiom. place: the file without crates/ and its ending.
 # The statement of a function is its signature and its contract; that of what stands in a `module _ (..) where` begins with those parameters.
 #
-# What ghost members an impl has (`ghost view = { .. }`) stands behind its type's statement.
+# The ghost fields of a struct, and the ghost members of its impls (`ghost view = { .. }`), stand behind its statement; those of a trait behind the trait's.
 #
 # Marks, comments, layout, `unfolding` lines and the names of clauses are gone: words stand a blank apart, and a `,` or `;` right before a closing
 # bracket is left out. A word that names an item of ours is followed by \002 and that item's place, \003 and name; a library's word by \002 and its
@@ -111,7 +111,7 @@ function antt(line,    s, indent, word) {
         return
     }
     while (depth > 0 && indent < block[depth]) depth--
-    if (indent > block[depth] || s ~ /^[)}]/) {
+    if (indent > block[depth] || s ~ /^[])}]/) {
         if (indent == block[depth] + 2 && inside == "data" && s ~ /^[^ ]+ :/) { word = s; sub(/ .*/, "", word); at[place, word] = n }
         add(s)
         return
@@ -169,20 +169,26 @@ function rt(line,    s, indent) {
     if (gathering == "use") { gathered = gathered " " s; if (s ~ /;$/) { gathering = ""; use_line(gathered) }; return }
     if (gathering == "impl") { impl_head = impl_head " " s; if (s ~ /\{( *\})?$/) impl_line(indent); return }
     if (gathering == "attribute") { if (s ~ /\]$/) gathering = ""; return }
-    if (gathering == "ghost") { Ghost[place, impl] = Ghost[place, impl] " " s; if (indent == from && s ~ /\}[;,]?$/) gathering = ""; return }
+    if (gathering == "ghost") { ghost(impl, s); if (indent == from && s ~ /\}[;,]?$/) gathering = ""; return }
+    if (gathering == "type" && (ghostly || s ~ /^ghost /)) { ghost(Name[n], s); ghostly = !(indent == Indent[n] + 4 && s ~ /[,}]$/); return }
     if (gathering != "") { add(s); close_item(s, indent); return }
-    if (s ~ /^(ghost |pub(\(crate\))? )?use /) { if (s ~ /;$/) use_line(s); else { gathered = s; gathering = "use" }; return }
-    if (s ~ /^(pub(\(crate\))? )?mod [a-z_0-9]+;$/) { rt_mod(s); return }
-    if (s ~ /^(unsafe )?impl[ <]/ || s ~ /^(pub(\(crate\))? )?(unsafe )?trait /) { impl_head = s; if (s ~ /\{( *\})?$/) impl_line(indent); else gathering = "impl"; return }
+    if (s ~ /^(ghost |pub(\([a-z_: ]*\))? )?use /) { if (s ~ /;$/) use_line(s); else { gathered = s; gathering = "use" }; return }
+    if (s ~ /^(pub(\([a-z_: ]*\))? )?mod [a-z_0-9]+;$/) { rt_mod(s); return }
+    if (s ~ /^(unsafe )?impl[ <]/ || s ~ /^(pub(\([a-z_: ]*\))? )?(unsafe )?trait /) { impl_head = s; if (s ~ /\{( *\})?$/) impl_line(indent); else gathering = "impl"; return }
     if (s == "}" && impl != "") { impl = ""; return }
-    if (s ~ /^(pub(\(crate\))? )?(const |unsafe )*(extern "C" )?fn /) { fn(s, indent); return }
-    if (impl != "" && s ~ /^ghost /) { from = indent; Ghost[place, impl] = Ghost[place, impl] " " s; if (s !~ /\}[;,]?$/) gathering = "ghost"; return }
+    if (s ~ /^(pub(\([a-z_: ]*\))? )?(const |unsafe |final )*(extern "C" )?fn /) { fn(s, indent); return }
+    if (impl != "" && s ~ /^ghost /) { from = indent; ghost(impl, s); if (s !~ /\}[;,]?$/) gathering = "ghost"; return }
     if (impl != "" && s ~ /^type .*;$/) return
-    if (s ~ /^(pub(\(crate\))? )?(struct|enum|const|static|type) /) { rt_type(s, indent); return }
+    if (s ~ /^(pub(\([a-z_: ]*\))? )?(struct|enum|const|static|type) /) { rt_type(s, indent); return }
     if (s ~ /^#!?\[/) { if (s !~ /\]$/) gathering = "attribute"; return }
     # a module of tests, and a macro: nothing that a promise names stands in them
     if (s ~ /^(mod [a-z_0-9]+|macro_rules! [a-z_0-9]+) \{$/) { until = sprintf("%" indent "s", "") "}"; return }
     fail(s)
+}
+
+function ghost(type, s) {
+    if (!((place, type) in Ghost)) Ghosts[++ghosts] = place SUBSEP type
+    Ghost[place, type] = Ghost[place, type] " " s
 }
 
 function rt_mod(s,    m) {
@@ -193,7 +199,7 @@ function rt_mod(s,    m) {
 
 function use_line(s) {
     if (s ~ /^ghost /) { import(s); return }
-    sub(/^(pub(\(crate\))? )?use +/, "", s); sub(/ *; *$/, "", s)
+    sub(/^(pub(\([a-z_: ]*\))? )?use +/, "", s); sub(/ *; *$/, "", s)
     used_tree("", s)
 }
 
@@ -227,11 +233,12 @@ function used_tree(head, s,    at_, depth_, i, c, part_, name, path) {
 function impl_line(indent,    s) {
     gathering = ""
     s = impl_head
-    sub(/^(pub(\(crate\))? )?(unsafe )?(impl|trait)/, "", s)
+    sub(/^(pub(\([a-z_: ]*\))? )?(unsafe )?(impl|trait)/, "", s)
     s = past_angles(s)
     if (s ~ / for [A-Za-z&\[(]/) { sub(/^.* for /, "", s) }
     gsub(/^[ &]+/, "", s); sub(/[^A-Za-z_0-9:].*/, "", s); sub(/:$/, "", s); sub(/^.*::/, "", s)
     impl = s == "" ? "_" : s
+    if (impl_head ~ /^[^<]*trait /) { begin("type", impl, indent); s = impl_head; sub(/^pub(\([a-z_: ]*\))? /, "", s); sub(/ *\{( *\})?$/, "", s); add(s) }
     if (impl_head ~ /\{ *\}$/) impl = ""
 }
 
@@ -249,8 +256,8 @@ function past_angles(s,    i, c, d) {
 
 function rt_type(s, indent,    name) {
     name = s
-    sub(/^(pub(\(crate\))? )?(struct|enum|const|static|type) (mut )?/, "", name); sub(/[^A-Za-z_0-9].*$/, "", name)
-    sub(/^pub(\(crate\))? /, "", s)
+    sub(/^(pub(\([a-z_: ]*\))? )?(struct|enum|const|static|type) (mut )?/, "", name); sub(/[^A-Za-z_0-9].*$/, "", name)
+    sub(/^pub(\([a-z_: ]*\))? /, "", s)
     gathering = s ~ /^(const|static|type) / ? "const" : "type"
     begin("type", impl == "" ? name : impl "::" name, indent)
     add(s)
@@ -262,9 +269,9 @@ function close_item(s, indent) {
 }
 
 function fn(s, indent,    name, mark) {
-    mark = s ~ /^pub (const |unsafe )*(extern "C" )?fn / ? "pub-fn" : "fn"
-    sub(/^pub(\(crate\))? /, "", s)
-    name = s; sub(/^(const |unsafe )*(extern "C" )?fn /, "", name); sub(/[^A-Za-z_0-9].*$/, "", name)
+    mark = s ~ /^pub (const |unsafe |final )*(extern "C" )?fn / ? "pub-fn" : "fn"
+    sub(/^pub(\([a-z_: ]*\))? /, "", s)
+    name = s; sub(/^(const |unsafe |final )*(extern "C" )?fn /, "", name); sub(/[^A-Za-z_0-9].*$/, "", name)
     begin(mark, impl == "" ? name : impl "::" name, indent)
     Impl[n] = impl
     gathering = "fn"
@@ -406,13 +413,24 @@ FNR == 1 {
 antt_file { antt($0); next }
 { rt($0) }
 
+# what is ghost of a type, which may be another file's, goes to the type's item
+function ghosts_placed(    j, part_, i, t) {
+    for (j = 1; j <= ghosts; j++) {
+        split(Ghosts[j], part_, SUBSEP)
+        i = (part_[1], part_[2]) in at ? at[part_[1], part_[2]] : 0
+        if (i == 0 && (t = rust_named(part_[1], 0, part_[2])) != "") { split(t, part_, "\003"); i = at[part_[1], part_[2]]; split(Ghosts[j], part_, SUBSEP) }
+        if (i > 0) Ghostly[i] = (Ghostly[i] == "" ? "" : Ghostly[i] " ") marked(part_[1], i, Ghost[Ghosts[j]], 0)
+    }
+}
+
 END {
     if (failed) exit 2
+    ghosts_placed()
     for (i = 1; i <= n; i++) {
         rust = Place[i] ~ /\/src\//
         said = fixity[Place[i], Name[i]] marked(Place[i], i, Said[i], rust)
         if (Contract[i] != "") { parameters(i); said = said " " marked(Place[i], i, Contract[i], 0) }
-        if (Kind[i] == "type" && (Place[i], Name[i]) in Ghost) said = said " " marked(Place[i], i, Ghost[Place[i], Name[i]], 0)
+        if (i in Ghostly) said = said " " Ghostly[i]
         kind = Kind[i]
         if (kind == "pub-fn") kind = called(Place[i]) ? "call" : "fn"
         print kind "\t" Place[i] "\t" Name[i] "\t" Line[i] "\t" said "\t" (Body[i] == "" ? "" : marked(Place[i], i, Body[i], 0))

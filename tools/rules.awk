@@ -27,7 +27,7 @@ FILENAME ~ /\.antt$/ { look(uncomment($0)); next }
 /^ *(pub )?(unsafe )?extern "C" *\{/ { broken("an extern \"C\" block") }
 /^ *(requires|ensures|ghost)[* ]/ { look($0); claused = 1 }
 
-until == "" && /^ *(pub(\([a-z]*\))? )?(const |unsafe )*(extern "C" )?fn / {
+until == "" && /^ *(pub(\([a-z_: ]*\))? )?(const |unsafe |final )*(extern "C" )?fn / {
     name = $0; sub(/^.*fn /, "", name); sub(/[^A-Za-z_0-9].*$/, "", name)
     match($0, /^ */)
     until = sprintf("%" RLENGTH "s", "") "}"
