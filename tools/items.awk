@@ -6,10 +6,12 @@
 # unfoldable, record, data), pub-stated or stated (anything else that has a type), axiom. place: the file without crates/ and its ending.
 # The statement of a function is its signature and its contract; that of what stands in a `module _ (..) where` begins with those parameters.
 #
-# Marks, comments, layout and `unfolding` lines are gone: words stand a blank apart, and a `,` or `;` right before a closing bracket is left out.
-# A word that names an item of ours is followed by \002 and that item's place, \003 and name; a library's word by \002 and its path. A field
-# (`r .answer`), a label (`answer =`) and, in a contract, a parameter name nothing. A word that a variable shadows counts as the name all the
-# same: an item may be said to reach too much, never too little.
+# The ghost fields of a struct, and the ghost members of its impls (`ghost view = { .. }`), stand behind its statement; those of a trait behind the trait's.
+#
+# Marks, comments, layout, `unfolding` lines and the names of clauses are gone: words stand a blank apart, and a `,` or `;` right before a closing
+# bracket is left out. A word that names an item of ours is followed by \002 and that item's place, \003 and name; a library's word by \002 and its
+# path. A field (`r.answer`), a label (`answer =`) and, in a contract, a parameter name nothing. A word that a variable shadows counts as the name all
+# the same: an item may be said to reach too much, never too little.
 #
 # It reads what `rt fmt` lays out, and ends with status 2 at what it cannot read.
 
@@ -31,10 +33,10 @@ function begin(kind, name, indent) {
     operator(name, n)
 }
 
-# the words of an operator, as a and b of `_a_b_`, name it too
+# the words of an operator, as a and b of `◌a◌b◌`, name it too
 function operator(name, item,    parts, k, i) {
-    if (name !~ /_/ || place ~ /\/src\//) return
-    k = split(name, parts, "_")
+    if (name !~ /◌/ || place ~ /\/src\//) return
+    k = split(name, parts, /◌/)
     for (i = 1; i <= k; i++) if (parts[i] != "") at[place, parts[i]] = item
 }
 
@@ -45,28 +47,27 @@ function add(text) {
 
 # ── .antt ──
 
-# the place that a path of ours names, "" for a library's; where it is a declared type's, its item goes to `declared`
-function place_of(path,    c, k, parts, i, mods, rest, where) {
+# The place that a path of a crate names, "" for another library's. Of `Rattle.c.specs.declared.m.T`, and of what stands below it (`TheVariants` and
+# kin), the place is that of T's source, and T goes to `declared`; of `..declared.m.TheConstants` nothing does.
+function place_of(path,    c, k, parts, i, mods, rest) {
     declared = ""
-    if (path !~ /^Rattle·/) return ""
-    c = path
-    sub(/^Rattle·/, "", c)
-    rest = c
-    sub(/^[a-z_0-9]*(·(specs|proofs))?\.(specs|proofs)\./, "", rest)
-    where = substr(c, 1, length(c) - length(rest) - 1)
-    sub(/^.*\./, "", where)
-    sub(/[^a-z_0-9].*$/, "", c)
-    if (rest !~ /^declared\./) { gsub(/\./, "/", rest); return c "/" where "/" rest }
-    k = split(rest, parts, ".")
-    if (parts[k] == "the-variants") k--
+    if (path !~ /^Rattle\.[a-z_0-9]+\.(specs|proofs)\./) return ""
+    k = split(path, parts, ".")
+    c = parts[2]
+    rest = ""
+    if (parts[4] != "declared") {
+        for (i = 4; i <= k; i++) rest = rest "/" parts[i]
+        return c "/" parts[3] rest
+    }
     mods = ""
-    for (i = 2; i < k; i++) mods = mods (i > 2 ? "/" : "") parts[i]
-    declared = parts[k]
+    for (i = 5; i <= k && parts[i] !~ /^[A-Z]/; i++) mods = mods (i > 5 ? "/" : "") parts[i]
+    if (parts[i] != "TheConstants") declared = parts[i]
     return c "/src/" (mods == "" ? "lib" : mods)
 }
 
 # `use PATH.{a, b as c}`, `use PATH as x`, `use PATH`; `pub use PATH.{a}` hands a on, and in a Lib.antt `pub use PATH` the module
 function import(s,    path, list, k, names, i, from, to, w, p, pub) {
+    if (s ~ /Rattle·/) fail("a path in an older Rattle's spelling: " s)
     pub = s ~ /^(unfoldable )?pub /
     sub(/^(ghost|unfoldable|pub) +/, "", s); sub(/^pub +/, "", s); sub(/^use +/, "", s); sub(/;? *$/, "", s)
     if (s ~ /\.\*$/) fail("use of all names")
@@ -81,7 +82,7 @@ function import(s,    path, list, k, names, i, from, to, w, p, pub) {
             to = w == 3 ? from[3] : from[1]
             brought[place, to] = p == "" ? path "." from[1] : p SUBSEP (declared == "" ? from[1] : declared)
             if (pub && p != "") handed[place, to] = brought[place, to]
-            if (to ~ /^_.*_$/) brought[place, substr(to, 2, length(to) - 2)] = brought[place, to]
+            if (to ~ /◌/) { w = split(to, from, /◌/); for (; w > 0; w--) if (from[w] != "") brought[place, from[w]] = brought[place, to] }
         }
         return
     }
@@ -110,7 +111,7 @@ function antt(line,    s, indent, word) {
         return
     }
     while (depth > 0 && indent < block[depth]) depth--
-    if (indent > block[depth] || s ~ /^[)}]/) {
+    if (indent > block[depth] || s ~ /^[])}]/) {
         if (indent == block[depth] + 2 && inside == "data" && s ~ /^[^ ]+ :/) { word = s; sub(/ .*/, "", word); at[place, word] = n }
         add(s)
         return
@@ -120,7 +121,8 @@ function antt(line,    s, indent, word) {
     if (s ~ /^(pub )?mod /) return
     if (s ~ /^module /) { if (s ~ / where$/) enter(s); else open = s; return }
     if (s ~ /^infix[lr]? /) { split(s, fix, " "); fixity[place, fix[3]] = fix[1] " " fix[2] " "; return }
-    if (s ~ /^((unfoldable|abbrev) )?mutual$|^(open|ruleset) /) fail(s)
+    if (s ~ /^open .* use \{.*\}$/) return
+    if (s ~ /^((unfoldable|abbrev) )?mutual$|^(open|ruleset|syntax) /) fail(s)
     if (s ~ /^unfolding /) { part = "unfolding"; return }
     declare(s, indent)
 }
@@ -142,7 +144,7 @@ function declare(s, indent,    marks, name) {
         add(s)
         return
     }
-    if (marks == "" && n > 0 && Place[n] == place && (name == Name[n] || (Name[n] ~ /_/ && s ~ / = /))) { part = "body"; add(s); return }
+    if (marks == "" && n > 0 && Place[n] == place && (name == Name[n] || (Name[n] ~ /◌/ && s ~ / = /))) { part = "body"; add(s); return }
     fail(s)
 }
 
@@ -158,22 +160,35 @@ function enter(s) {
 function rt(line,    s, indent) {
     s = line
     if (s ~ /^ *\/\//) return
-    if (until != "") { if (s == until) until = ""; return }
+    if (until != "") { if (s == until || s == until ";") until = ""; return }
     if (s !~ /"/) sub(/ *\/\/.*$/, "", s)
     if (s ~ /^ *$/) return
     match(s, /^ */); indent = RLENGTH
     s = substr(s, indent + 1)
     if (gathering == "fn") { header(s, indent); return }
+    if (gathering == "use") { gathered = gathered " " s; if (s ~ /;$/) { gathering = ""; use_line(gathered) }; return }
+    if (gathering == "impl") { impl_head = impl_head " " s; if (s ~ /\{( *\})?$/) impl_line(indent); return }
+    if (gathering == "attribute") { if (s ~ /\]$/) gathering = ""; return }
+    if (gathering == "ghost") { ghost(impl, s); if (indent == from && s ~ /\}[;,]?$/) gathering = ""; return }
+    if (gathering == "type" && (ghostly || s ~ /^ghost /)) { ghost(Name[n], s); ghostly = !(indent == Indent[n] + 4 && s ~ /[,}]$/); return }
     if (gathering != "") { add(s); close_item(s, indent); return }
-    if (s ~ /^ghost use /) { import(s); return }
-    if (s ~ /^(pub )?use /) { rt_use(s); return }
-    if (s ~ /^(pub(\(crate\))? )?mod [a-z_0-9]+;$/) { rt_mod(s); return }
-    if (s ~ /^impl[ <]/) { sub(/^impl(<[^>]*>)? */, "", s); sub(/[ <].*/, "", s); impl = s; return }
+    if (s ~ /^(ghost |pub(\([a-z_: ]*\))? )?use /) { if (s ~ /;$/) use_line(s); else { gathered = s; gathering = "use" }; return }
+    if (s ~ /^(pub(\([a-z_: ]*\))? )?mod [a-z_0-9]+;$/) { rt_mod(s); return }
+    if (s ~ /^(unsafe )?impl[ <]/ || s ~ /^(pub(\([a-z_: ]*\))? )?(unsafe )?trait /) { impl_head = s; if (s ~ /\{( *\})?$/) impl_line(indent); else gathering = "impl"; return }
     if (s == "}" && impl != "") { impl = ""; return }
-    if (s ~ /^(pub(\(crate\))? )?(extern "C" )?fn /) { fn(s, indent); return }
-    if (s ~ /^(pub(\(crate\))? )?(struct|enum|const|type) /) { rt_type(s, indent); return }
-    if (s ~ /^#\[/) return
+    if (s ~ /^(pub(\([a-z_: ]*\))? )?(const |unsafe |final )*(extern "C" )?fn /) { fn(s, indent); return }
+    if (impl != "" && s ~ /^ghost /) { from = indent; ghost(impl, s); if (s !~ /\}[;,]?$/) gathering = "ghost"; return }
+    if (impl != "" && s ~ /^type .*;$/) return
+    if (s ~ /^(pub(\([a-z_: ]*\))? )?(struct|enum|const|static|type) /) { rt_type(s, indent); return }
+    if (s ~ /^#!?\[/) { if (s !~ /\]$/) gathering = "attribute"; return }
+    # a module of tests, and a macro: nothing that a promise names stands in them
+    if (s ~ /^(mod [a-z_0-9]+|macro_rules! [a-z_0-9]+) \{$/) { until = sprintf("%" indent "s", "") "}"; return }
     fail(s)
+}
+
+function ghost(type, s) {
+    if (!((place, type) in Ghost)) Ghosts[++ghosts] = place SUBSEP type
+    Ghost[place, type] = Ghost[place, type] " " s
 }
 
 function rt_mod(s,    m) {
@@ -182,20 +197,69 @@ function rt_mod(s,    m) {
     if (s ~ /^pub mod /) shown[crate "/src/" m] = 1
 }
 
-# `use a::b::C;`
-function rt_use(s,    path, last) {
-    path = s; sub(/^(pub )?use /, "", path); sub(/;$/, "", path)
-    if (path ~ /[{*]| as /) fail(s)
-    last = path; sub(/^.*::/, "", last)
-    used[place, last] = path
+function use_line(s) {
+    if (s ~ /^ghost /) { import(s); return }
+    sub(/^(pub(\([a-z_: ]*\))? )?use +/, "", s); sub(/ *; *$/, "", s)
+    used_tree("", s)
+}
+
+# `a::b::C`, `a::b as c`, `a::{self, b, c::{d}}`
+function used_tree(head, s,    at_, depth_, i, c, part_, name, path) {
+    gsub(/^ +| +$/, "", s)
+    if (s == "") return
+    at_ = index(s, "{")
+    if (at_ == 0) {
+        name = path = s
+        if (s ~ / as /) { sub(/ as .*/, "", path); sub(/.* as /, "", name) }
+        else sub(/^.*::/, "", name)
+        if (path == "self") { path = head; sub(/::$/, "", path); if (name == "self") { name = path; sub(/^.*::/, "", name) } }
+        else path = head path
+        if (name == "*") { c = path; sub(/::.*/, "", c); starred[place] = starred[place] " " c }
+        used[place, name] = path
+        return
+    }
+    head = head substr(s, 1, at_ - 1)
+    depth_ = 0
+    part_ = ""
+    for (i = at_ + 1; i <= length(s); i++) {
+        c = substr(s, i, 1)
+        if (depth_ == 0 && (c == "," || c == "}")) { used_tree(head, part_); part_ = ""; if (c == "}") return; continue }
+        depth_ += (c == "{") - (c == "}")
+        part_ = part_ c
+    }
+}
+
+# the type of `impl<..> T<..> {` or `impl<..> Trait<..> for T<..> where .. {`, or a trait's name
+function impl_line(indent,    s) {
+    gathering = ""
+    s = impl_head
+    sub(/^(pub(\([a-z_: ]*\))? )?(unsafe )?(impl|trait)/, "", s)
+    s = past_angles(s)
+    if (s ~ / for [A-Za-z&\[(]/) { sub(/^.* for /, "", s) }
+    gsub(/^[ &]+/, "", s); sub(/[^A-Za-z_0-9:].*/, "", s); sub(/:$/, "", s); sub(/^.*::/, "", s)
+    impl = s == "" ? "_" : s
+    if (impl_head ~ /^[^<]*trait /) { begin("type", impl, indent); s = impl_head; sub(/^pub(\([a-z_: ]*\))? /, "", s); sub(/ *\{( *\})?$/, "", s); add(s) }
+    if (impl_head ~ /\{ *\}$/) impl = ""
+}
+
+# what stands behind the `<..>` that a text begins with
+function past_angles(s,    i, c, d) {
+    if (s !~ /^</) return s
+    d = 0
+    for (i = 1; i <= length(s); i++) {
+        c = substr(s, i, 1)
+        d += (c == "<") - (c == ">" && substr(s, i - 1, 1) != "-")
+        if (d == 0) return substr(s, i + 1)
+    }
+    return s
 }
 
 function rt_type(s, indent,    name) {
     name = s
-    sub(/^(pub(\(crate\))? )?(struct|enum|const|type) /, "", name); sub(/[^A-Za-z_0-9].*$/, "", name)
-    sub(/^pub(\(crate\))? /, "", s)
-    gathering = s ~ /^(const|type) / ? "const" : "type"
-    begin("type", name, indent)
+    sub(/^(pub(\([a-z_: ]*\))? )?(struct|enum|const|static|type) (mut )?/, "", name); sub(/[^A-Za-z_0-9].*$/, "", name)
+    sub(/^pub(\([a-z_: ]*\))? /, "", s)
+    gathering = s ~ /^(const|static|type) / ? "const" : "type"
+    begin("type", impl == "" ? name : impl "::" name, indent)
     add(s)
     close_item(s, indent)
 }
@@ -205,25 +269,25 @@ function close_item(s, indent) {
 }
 
 function fn(s, indent,    name, mark) {
-    mark = s ~ /^pub (extern "C" )?fn / ? "pub-fn" : "fn"
-    sub(/^pub(\(crate\))? /, "", s)
-    name = s; sub(/^(extern "C" )?fn /, "", name); sub(/[^A-Za-z_0-9].*$/, "", name)
+    mark = s ~ /^pub (const |unsafe |final )*(extern "C" )?fn / ? "pub-fn" : "fn"
+    sub(/^pub(\([a-z_: ]*\))? /, "", s)
+    name = s; sub(/^(const |unsafe |final )*(extern "C" )?fn /, "", name); sub(/[^A-Za-z_0-9].*$/, "", name)
     begin(mark, impl == "" ? name : impl "::" name, indent)
     Impl[n] = impl
     gathering = "fn"
     header(s, indent)
 }
 
-# the signature, then contracts, up to the `{` of the body
+# The signature, then the clauses, up to the `{` of the body, or the `;` of a method that a trait leaves open. What a clause goes by is no part of it.
 function header(s, indent,    body) {
-    if (s ~ /^(requires|ensures) /) part = "contract"
-    body = indent == Indent[n] && s == "{"
+    if (indent == Indent[n] + 4 && s ~ /^(requires|ensures|ghost)[* ]/) { part = "contract"; if (s !~ /^ghost /) sub(/ +[a-z_0-9]+ *\{/, " {", s) }
+    body = indent == Indent[n] && s ~ /^\{/
     if (part == "said" && s ~ /(^| )\{( .*\}|\})?$/) { body = 1; sub(/ *\{[^{]*$/, "", s) }
-    if (!(indent == Indent[n] && s == "{")) {
+    if (!(indent == Indent[n] && s ~ /^\{/)) {
         if (part == "said") add(s)
         else Contract[n] = Contract[n] " " s
     }
-    if (!body) return
+    if (!body) { if (impl != "" && s ~ (part == "said" ? ";$" : "\\};$")) { gathering = ""; part = "" }; return }
     gathering = ""
     part = ""
     if ($0 !~ /\}$/) until = sprintf("%" Indent[n] "s", "") "}"
@@ -243,7 +307,7 @@ function named(p, i, w,    head, tail, t) {
     if ((p, w) in at && at[p, w] <= i && p !~ /\/src\//) return Place[at[p, w]] "\003" Name[at[p, w]]
     if ((p, w) in brought) return target(brought[p, w])
     if (w !~ /[^.]\.[^.]/) return ""
-    if (w ~ /^Rattle·/) {
+    if (w ~ /^Rattle\./) {
         tail = w; sub(/^.*\./, "", tail)
         head = substr(w, 1, length(w) - length(tail) - 1)
         t = place_of(head)
@@ -268,7 +332,8 @@ function target(t,    a, c) {
     split(t, a, SUBSEP)
     while (a[1] in passed) a[1] = passed[a[1]]
     c = a[1]; sub(/\/.*/, "", c)
-    if (!(c in ours) || (a[1] ~ /\/proofs\// && !(a[1] in sources))) return a[1] "." a[2]
+    if (a[1] == c "/src/lib" && !(a[1] in sources)) a[1] = c "/src/main"
+    if (!(c in ours) || (a[1] ~ /\/(proofs|specs\/contracts)\// && !(a[1] in sources))) return a[1] "." a[2]
     if ((a[1], a[2]) in handed) return target(handed[a[1], a[2]])
     if (!((a[1], a[2]) in at)) { lost(a[1], a[2]); return "" }
     return Place[at[a[1], a[2]]] "\003" Name[at[a[1], a[2]]]
@@ -307,6 +372,8 @@ function parameters(i,    k, j) {
     for (j = 1; j < k; j++) if (W[j + 1] == ":") Param[i, W[j]] = 1
 }
 
+function first(w) { sub(/\..*/, "", w); return w }
+
 # the words of a text, each with what it names
 function marked(p, i, s, rust,    k, j, w, out, name, prev, next_, head) {
     k = rust ? rust_words(s) : words_of(s)
@@ -316,7 +383,7 @@ function marked(p, i, s, rust,    k, j, w, out, name, prev, next_, head) {
         if ((w == "," || w == ";") && next_ ~ /^[])}]$/) continue
         name = ""
         if (w ~ /^\./ || w ~ /\.$/ || (next_ == "=" && prev ~ /^([{;]|let)$/) || (next_ == ":" && prev == "pub")) name = ""
-        else if (!rust && (i, w) in Param) name = ""
+        else if (!rust && ((i, w) in Param || (i, first(w)) in Param)) name = ""
         else if (rust) name = rust_named(p, i, w)
         else {
             name = named(p, i, w)
@@ -338,7 +405,7 @@ FNR == 1 {
     place = FILENAME
     sub(/^.*crates\//, "", place); sub(/\.[a-z]*$/, "", place)
     crate = place; sub(/\/.*/, "", crate)
-    depth = 0; block[0] = 0; tele[0] = ""; open = ""; inside = ""; impl = ""; until = ""; gathering = ""
+    depth = 0; block[0] = 0; tele[0] = ""; open = ""; inside = ""; impl = ""; until = ""; gathering = ""; gathered = ""
     sources[place] = 1; ours[crate] = 1
     antt_file = FILENAME ~ /\.antt$/
     if (place ~ /\/src\/lib$/) shown[place] = 1
@@ -346,12 +413,24 @@ FNR == 1 {
 antt_file { antt($0); next }
 { rt($0) }
 
+# what is ghost of a type, which may be another file's, goes to the type's item
+function ghosts_placed(    j, part_, i, t) {
+    for (j = 1; j <= ghosts; j++) {
+        split(Ghosts[j], part_, SUBSEP)
+        i = (part_[1], part_[2]) in at ? at[part_[1], part_[2]] : 0
+        if (i == 0 && (t = rust_named(part_[1], 0, part_[2])) != "") { split(t, part_, "\003"); i = at[part_[1], part_[2]]; split(Ghosts[j], part_, SUBSEP) }
+        if (i > 0) Ghostly[i] = (Ghostly[i] == "" ? "" : Ghostly[i] " ") marked(part_[1], i, Ghost[Ghosts[j]], 0)
+    }
+}
+
 END {
     if (failed) exit 2
+    ghosts_placed()
     for (i = 1; i <= n; i++) {
         rust = Place[i] ~ /\/src\//
         said = fixity[Place[i], Name[i]] marked(Place[i], i, Said[i], rust)
         if (Contract[i] != "") { parameters(i); said = said " " marked(Place[i], i, Contract[i], 0) }
+        if (i in Ghostly) said = said " " Ghostly[i]
         kind = Kind[i]
         if (kind == "pub-fn") kind = called(Place[i]) ? "call" : "fn"
         print kind "\t" Place[i] "\t" Name[i] "\t" Line[i] "\t" said "\t" (Body[i] == "" ? "" : marked(Place[i], i, Body[i], 0))

@@ -4,7 +4,7 @@
 function means(word, to) {
     if ((word, to) in seen) return
     seen[word, to] = 1
-    meant[word] = meant[word] (word in meant ? " and " : "") to
+    meant[word] = (meanings[word] ? meant[word] " and " : "") to
     meanings[word]++
 }
 
@@ -32,7 +32,7 @@ BEGIN {
 $1 == "call" {
     calls++
     look($5, 0)
-    if ((" " $5 " ") ~ / requires /) print $2 " " $3 ": a public call with a requires"
+    if ((" " $5 " ") ~ / requires\*? /) print $2 " " $3 ": a public call with a requires"
 }
 $2 ~ /\/specs\// {
     word = $3; gsub(/^_|_$/, "", word)

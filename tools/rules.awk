@@ -25,17 +25,20 @@ FNR == 401 { broken("a file of over 400 lines") }
 FILENAME ~ /\.antt$/ { look(uncomment($0)); next }
 
 /^ *(pub )?(unsafe )?extern "C" *\{/ { broken("an extern \"C\" block") }
-/^ *(requires|ensures|ghost use) / { look($0); next }
+/^ *(requires|ensures|ghost)[* ]/ { look($0); claused = 1 }
 
-until == "" && /^ *(pub(\([a-z]*\))? )?(extern "C" )?fn / {
+until == "" && /^ *(pub(\([a-z_: ]*\))? )?(const |unsafe |final )*(extern "C" )?fn / {
     name = $0; sub(/^.*fn /, "", name); sub(/[^A-Za-z_0-9].*$/, "", name)
     match($0, /^ */)
     until = sprintf("%" RLENGTH "s", "") "}"
     from = 0
+    claused = 0
     functions++
-    if ($0 ~ /\{.*\}$/) until = ""
+    if ($0 ~ /\{.*\}$|;$/) until = ""
 }
-until != "" && from == 0 && /\{$/ { from = FNR }
+# the body begins where a line ends in its brace, or behind clauses where it stands alone; a method that a trait leaves open has none
+until != "" && from == 0 && (claused ? $0 == substr(until, 1, length(until) - 1) "{" : /\{$/) { from = FNR }
+until != "" && from == 0 && (claused ? /\};$/ : /;$/) { until = "" }
 until != "" && $0 == until {
     size = FNR - from - 1
     if (size > 40 && (short() ":" name) in exempt) used[short() ":" name] = 1

@@ -11,7 +11,6 @@ const STUBS: [&str; 2] = ["chunk/chunk_heartbeat_ack.rs", "queue/mod.rs"];
 const CRATES: [&str; 4] = ["bytes", "thiserror", "crc", "rand"];
 
 fn main() {
-    // A build with other crates is laid out as a folder of links; the links' end is this folder.
     let here = fs::canonicalize("build.rs").unwrap().parent().unwrap().to_path_buf();
     let beside_the_repository = here.ancestors().nth(3).unwrap_or(&here).join("shared/docs/src");
     let folder = env::var_os("SCTP_PROTO_SRC").map_or(beside_the_repository, PathBuf::from);

@@ -1,7 +1,7 @@
 -- What a bounded skip does, and how far it applies, by conditions on the held sets and with no order of work: document 02, M-110.
 -- Assumes nothing.
-use Rattle.std.specs.Prelude.{◌≡◌, Bool, true, false, ◌⊎◌, ℕ, suc, ◌^◌, ◌<◌}
-use mathlib.Core.List.{List, Memᴰ}
+use Rattle.std.specs.Prelude.{◌≡◌, Bool, true, false, ◌⊎◌, ℕ, suc, ◌^◌, ◌<◌, List}
+use mathlib.Core.List.{Memᴰ}
 use Rattle.std.proofs.Math.Option.{Option, none, some}
 use Rattle.serial_model.specs.Serial.{next, ahead, before, at_or_before}
 use Rattle.fragments.specs.Frag.{Frag, ssn_of}

@@ -1,7 +1,7 @@
 -- What a gap report is, from the words of RFC 4960 section 3.3.4 and with no walk; and what a queue's TSNs are: ordered on an arc.
 -- Assumes nothing.
-use Rattle.std.specs.Prelude.{◌≡◌, ◌↔◌, ◌⊎◌, ℕ, ◌+◌, ◌^◌, ◌<◌, ◌≤◌}
-use mathlib.Core.List.{List, [], ◌∷◌, Memᴰ}
+use Rattle.std.specs.Prelude.{◌≡◌, ◌↔◌, ◌⊎◌, ℕ, ◌+◌, ◌^◌, ◌<◌, ◌≤◌, List, [], ◌∷◌}
+use mathlib.Core.List.{Memᴰ}
 use Rattle.serial_model.specs.Serial.{ahead}
 use Rattle.gap_model.specs.Gap.{Block}
 

@@ -1,11 +1,9 @@
 -- The log plays no part but where it is handed out: whatever it holds, a call answers the same and leaves the same counts and rows, and it leaves the log as
 -- it was, but for the place where a push notes a TSN.
 -- Assumes nothing.
-use Rattle.std.specs.Prelude.{◌≡◌, Bool, true, false, cond, ltb, leb, set, take}
+use Rattle.std.specs.Prelude.{◌≡◌, ℕ, ◌+◌, Bool, true, false, cond, ltb, leb, List, set, take}
 use Rattle.std.proofs.Math.Path.{refl}
 use Rattle.std.proofs.Common.{ap, arith, lt-ltb, le-ltb}
-use mathlib.Core.List.{List}
-use Prim.Native.Nat.{ℕ, ◌+◌}
 use Rattle.wire_model.specs.Refusal.{none, refuse, Told, says}
 use Rattle.serial_model.specs.Serial.{opposite}
 use Rattle.table.specs.Rows.{some, has_tsn}

@@ -1,7 +1,7 @@
 -- Runs of calls from `new` on: what a run is, and what is claimed of the queue that it leaves.
 -- Assumes nothing.
-use Rattle.std.specs.Prelude.{◌≡◌, ℕ, ◌≤◌, length}
-use mathlib.Core.List.{List, [], ◌∷◌, Memᴰ}
+use Rattle.std.specs.Prelude.{◌≡◌, ℕ, ◌≤◌, List, [], ◌∷◌, length}
+use mathlib.Core.List.{Memᴰ}
 use Rattle.wire_model.specs.BigEndian.{over}
 use Rattle.wire_model.specs.Refusal.{none, refuse, Told, says}
 use Rattle.table.specs.declared.Row.{Row}

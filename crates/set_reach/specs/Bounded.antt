@@ -1,7 +1,7 @@
 -- An ordered skip that a cumulative point bounds: document 02, M-110.
 -- Assumes nothing.
 use Rattle.std.specs.Prelude.{ℕ, Bool, true, false, not, ◌&&◌, cond, List}
-use Rattle.std.proofs.Math.Option.{get_or}
+use Rattle.std.proofs.Math.Option as option
 use Rattle.wire_model.specs.Refusal.{none, says}
 use Rattle.serial_model.specs.Serial.{next, before}
 use Rattle.fragments.specs.Frag.{Frag}
@@ -21,7 +21,7 @@ held_back s t l = set_up_to s l && not (reached t l)
 
 -- how far the expected SSN may move: to the lowest SSN of the sets that hold it back, else to s + 1
 unfoldable pub limit : ℕ → ℕ → List Frag → ℕ
-limit s t l = get_or (lowest 16 (ssns_of (held_back s t) (sets l))) (next 16 s)
+limit s t l = option.get_or (lowest 16 (ssns_of (held_back s t) (sets l))) (next 16 s)
 
 -- and it moves there if it is before it
 unfoldable pub moved_to : ℕ → ℕ → ℕ

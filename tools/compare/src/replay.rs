@@ -64,7 +64,7 @@ pub fn run(seed: u64, program: &str, three: &str, most: u64, seconds: Option<u64
 
 /// Keeps the file, and says where the outputs part.
 fn parted(seed: u64, n: u64, program: &str, file: &[u8], ours: &str, right: &str) -> Result<bool, String> {
-    std::fs::write(PARTED, file).map_err(|e| format!("{PARTED}: {e}"))?;
+    std::fs::create_dir_all("target").and_then(|()| std::fs::write(PARTED, file)).map_err(|e| format!("{PARTED}: {e}"))?;
     println!("FAILED: seed {seed}: of file {n}, kept at {PARTED}, {program} and the model part:");
     let same = ours.lines().zip(right.lines()).take_while(|(a, b)| a == b).count();
     println!("  line {}: {:?}, and {:?}", same + 1, ours.lines().nth(same), right.lines().nth(same));

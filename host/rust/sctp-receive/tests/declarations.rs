@@ -94,6 +94,13 @@ fn rust_functions(source: &str, said: &str, sizes: &Sizes) -> Declarations {
         .collect()
 }
 
+/// Whether a source has `use OF::NAME;` or `use OF::{.., NAME, ..};`.
+fn brings(source: &str, of: &str, name: &str) -> bool {
+    let start = format!("use {of}::");
+    let lists = source.split(&start).skip(1).map(|l| l.split(';').next().unwrap());
+    lists.flat_map(|l| l.split(['{', '}', ','])).any(|n| n.trim() == name)
+}
+
 /// The Rattle source: the exported functions of every file of the crate.
 fn rattle() -> Declarations {
     let mut all = Declarations::new();
@@ -104,7 +111,7 @@ fn rattle() -> Declarations {
             [("payload_queue", "payload_model"), ("inflight_queue", "payload_model"), ("reassembly_queue", "reassembly_state")]
         {
             let theirs = constants(&text(&format!("crates/{below}/src/lib.rt")));
-            sizes.extend(theirs.into_iter().filter(|(name, _)| source.contains(&format!("use {of}::{name};"))));
+            sizes.extend(theirs.into_iter().filter(|(name, _)| brings(&source, of, name)));
         }
         all.extend(rust_functions(&source, "pub extern \"C\" fn", &sizes));
     }
