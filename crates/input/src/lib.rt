@@ -1,12 +1,14 @@
 // A window over standard input, in which the next call or record stands whole: where less than the longest one is left, what is left goes to the front and
 // more is read behind it.
 #![tactic(auto)]
-ghost use Rattle.std.specs.Prelude.{◌≡◌, min, length};
+
+ghost use Rattle.std.specs.Prelude.{◌≡◌, ◌≤◌, min, length, IfOk};
 ghost use Rattle.wire_model.specs.BigEndian.{over};
 ghost use Rattle.moves_model.specs.Lists.{slice};
 
 use answer_text::operands;
-use libc::STDIN_FILENO;
+use std::io;
+use std::io::{ErrorKind, Read};
 
 pub const WINDOW: usize = 262144;
 
@@ -32,21 +34,21 @@ pub fn unread() -> View {
 }
 
 // The window with a whole call or record, or with all that is left.
-pub fn ready(window: &mut [u8; WINDOW], view: View) -> View {
+pub fn ready<R: Read>(reader: &mut R, window: &mut [u8; WINDOW], view: View) -> io::Result<View> {
     if view.ended {
-        return view;
+        return Ok(view);
     }
     if LONGEST <= std::num::wrapping_sub_usize(view.to, view.from) {
-        return view;
+        return Ok(view);
     }
     let left = shift(window, view.from, view.to);
-    let to = read_behind(window, left);
-    View {
+    let to = read_behind(reader, window, left)?;
+    Ok(View {
         size: 0,
         from: 0,
         to,
         ended: to < WINDOW,
-    }
+    })
 }
 
 fn least(a: usize, b: usize) -> usize
@@ -68,12 +70,34 @@ fn shift(window: &mut [u8], from: usize, to: usize) -> usize
 }
 
 // Reads on behind the first bytes; where what is there then ends.
-fn read_behind(window: &mut [u8], left: usize) -> usize {
+fn read_behind<R: Read>(reader: &mut R, window: &mut [u8], left: usize) -> io::Result<usize> {
     if window.len() < left {
-        return left;
+        return Ok(left);
     }
-    let more = io::read_full(STDIN_FILENO, &mut window[left..]);
-    std::num::wrapping_add_usize(left, more)
+    let more = read_full(reader, &mut window[left..])?;
+    Ok(std::num::wrapping_add_usize(left, more))
+}
+
+// Reads until these bytes are full or the input ends; how many were read.
+fn read_full<R: Read>(reader: &mut R, bytes: &mut [u8]) -> io::Result<usize>
+    ensures { IfOk result (λ n. n ≤ length bytes.new) }
+{
+    let mut done: usize = 0;
+    for _ in 0..u64::MAX {
+        if done == bytes.len() {
+            break;
+        }
+        match reader.read(&mut bytes[done..]) {
+            Ok(0) => break,
+            Ok(n) => done += n,
+            Err(e) => {
+                if e.kind() != ErrorKind::Interrupted {
+                    return Err(e);
+                }
+            }
+        }
+    }
+    Ok(done)
 }
 
 // What is left.

@@ -1,98 +1,96 @@
-// Text, numbers and bytes on standard output.
+// Text, numbers and bytes, put behind what a writer holds.
 #![tactic(auto)]
-use libc::STDOUT_FILENO;
 
-pub fn text(s: &[u8]) {
-    io::write_all(STDOUT_FILENO, s);
+use std::io;
+use std::io::Write;
+
+pub fn text<W: Write>(writer: &mut W, s: &[u8]) -> io::Result<()> {
+    writer.write_all(s)
 }
 
-pub fn number(n: u64) {
-    io::print_decimal(STDOUT_FILENO, n);
+pub fn number<W: Write>(writer: &mut W, n: u64) -> io::Result<()> {
+    write!(writer, "{n}")
 }
 
 // A text in which each % stands for the next of the numbers.
-pub fn filled(s: &[u8], numbers: [u64; 4]) {
+pub fn filled<W: Write>(writer: &mut W, s: &[u8], numbers: [u64; 4]) -> io::Result<()> {
     let mut next: usize = 0;
-    let mut i: usize = 0;
-    while i < s.len() {
-        if s[i] == b'%' {
-            number(numbers[next % 4]);
+    for b in s {
+        if *b == b'%' {
+            number(writer, numbers[next % 4])?;
             next = next % 4 + 1;
         } else {
-            letter(s[i]);
+            letter(writer, *b)?;
         }
-        i += 1;
     }
+    Ok(())
 }
 
 // The same for one number.
-pub fn with_number(s: &[u8], n: u64) {
-    filled(s, [n, 0, 0, 0]);
+pub fn with_number<W: Write>(writer: &mut W, s: &[u8], n: u64) -> io::Result<()> {
+    filled(writer, s, [n, 0, 0, 0])
 }
 
 // Of texts with a bar between any two, the one that stands behind n bars; nothing where there is none.
-pub fn one_of(texts: &[u8], n: usize) {
+pub fn one_of<W: Write>(writer: &mut W, texts: &[u8], n: usize) -> io::Result<()> {
     let mut bars: usize = 0;
-    let mut i: usize = 0;
-    while i < texts.len() {
-        if texts[i] == b'|' {
-            bars = std::num::wrapping_add_usize(bars, 1);
+    for b in texts {
+        if *b == b'|' {
+            bars = bars.wrapping_add(1);
         } else if bars == n {
-            letter(texts[i]);
+            letter(writer, *b)?;
         }
-        i += 1;
     }
+    Ok(())
 }
 
-fn letter(b: u8) {
-    let one = [b];
-    text(&one);
+fn letter<W: Write>(writer: &mut W, b: u8) -> io::Result<()> {
+    text(writer, &[b])
 }
 
 // A line of a name and yes or no.
-pub fn flag_line(name: &[u8], set: bool) {
-    text(name);
-    one_of(b"no\n|yes\n", set as usize);
+pub fn flag_line<W: Write>(writer: &mut W, name: &[u8], set: bool) -> io::Result<()> {
+    text(writer, name)?;
+    one_of(writer, b"no\n|yes\n", set as usize)
 }
 
 // A line of a name and bytes, as the paper writes them.
-pub fn bytes_line(name: &[u8], s: &[u8]) {
-    text(name);
-    bytes(s);
-    text(b"\n");
+pub fn bytes_line<W: Write>(writer: &mut W, name: &[u8], s: &[u8]) -> io::Result<()> {
+    text(writer, name)?;
+    bytes(writer, s)?;
+    text(writer, b"\n")
 }
 
 // Two digits for each byte, with a space between bytes.
-pub fn bytes(s: &[u8]) {
-    let mut i: usize = 0;
-    while i < s.len() {
+pub fn bytes<W: Write>(writer: &mut W, s: &[u8]) -> io::Result<()> {
+    for (i, b) in s.iter().enumerate() {
         if 0 < i {
-            text(b" ");
+            text(writer, b" ")?;
         }
-        byte(s[i]);
-        i += 1;
+        byte(writer, *b)?;
     }
+    Ok(())
 }
 
-fn byte(b: u8) {
+fn byte<W: Write>(writer: &mut W, b: u8) -> io::Result<()> {
     let digits = *b"0123456789ABCDEF";
-    let pair = [digits[(b / 16) as usize], digits[(b % 16) as usize]];
-    text(&pair);
+    text(
+        writer,
+        &[digits[(b / 16) as usize], digits[(b % 16) as usize]],
+    )
 }
 
 // The bytes as text in quotes, with a dot for each that is no printable character of ASCII.
-pub fn quoted(s: &[u8]) {
-    text(b"\"");
-    let mut i: usize = 0;
-    while i < s.len() {
-        let mut b = s[i];
-        i += 1;
-        if b < 0x20 || 0x7E < b {
-            b = b'.';
-        }
-        letter(b);
+pub fn quoted<W: Write>(writer: &mut W, s: &[u8]) -> io::Result<()> {
+    text(writer, b"\"")?;
+    for b in s {
+        letter(writer, printable(*b))?;
     }
-    text(b"\"");
+    text(writer, b"\"")
+}
+
+fn printable(b: u8) -> u8 {
+    if b < 0x20 || 0x7E < b { b'.' } else { b }
 }
 
 // The first n of these bytes; all of them where there are fewer.

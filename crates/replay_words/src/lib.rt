@@ -1,10 +1,12 @@
 // What the lines of a replay are made of: bytes, numbers and answers, each put behind the first bytes of a lent buffer.
 #![tactic(auto)]
+
 ghost use Rattle.std.specs.Prelude.{◌++◌, ◌+◌, ◌≤◌, length};
 ghost use Rattle.payload_model.specs.Answers.{flag_told};
 ghost use Rattle.replay_words.specs.Behind.{Behind};
 ghost use Rattle.replay_words.specs.Lines.{decimal, said_answer, word};
 
+use itoa::Buffer;
 use payload_model::Flag;
 
 // Bytes, put behind the first ones; the place behind them.
@@ -22,9 +24,8 @@ pub fn decimal_at(out: &mut [u8], at: usize, n: u64) -> usize
     ensures behind { Behind out.old at (decimal n) out.new result }
     ensures upper_bound { result ≤ at + 20 }
 {
-    let mut text = [0u8; 20];
-    let k = io::decimal(n, &mut text);
-    put_at(out, at, &text[..k])
+    let mut text = Buffer::new();
+    put_at(out, at, text.format(n).as_bytes())
 }
 
 // A number behind a space.

@@ -1,5 +1,6 @@
 // Reads calls from standard input, does each on the proved libraries, and writes one line for it: docs/CALLS.md.
 #![tactic(auto)]
+
 mod calls;
 mod forward;
 
@@ -8,9 +9,10 @@ use answer_text::operands::BYTES;
 use answer_text::out::{LINE, SPACE};
 use answer_text::{answer, form, operands, out};
 use input::{View, WINDOW};
-use libc::STDOUT_FILENO;
+use std::io;
+use std::io::{Read, Write};
 
-fn main() {
+fn main(rt: HostRuntime) -> io::Result<()> {
     let mut window = [0u8; WINDOW];
     let mut out = [0u8; SPACE];
     let mut tsns = [0u32; payload_queue::WORDS];
@@ -20,6 +22,8 @@ fn main() {
     let mut pool = [0u8; POOL];
     let mut buffer = [0u8; BYTES];
     stream(
+        &mut rt.stdin(),
+        &mut rt.stdout(),
         &mut window,
         &mut out,
         &mut tsns,
@@ -28,11 +32,13 @@ fn main() {
         &mut table,
         &mut pool,
         &mut buffer,
-    );
+    )
 }
 
 // One call after the other, up to the end of the stream.
-fn stream(
+fn stream<R: Read, W: Write>(
+    reader: &mut R,
+    writer: &mut W,
     window: &mut [u8; WINDOW],
     out: &mut [u8; SPACE],
     tsns: &mut [u32; payload_queue::WORDS],
@@ -41,16 +47,14 @@ fn stream(
     table: &mut [u32; reassembly_queue::WORDS],
     pool: &mut [u8; POOL],
     buffer: &mut [u8; BYTES],
-) {
+) -> io::Result<()> {
     let mut at: usize = 0;
     let mut view = input::unread();
-    let mut number: u64 = 1;
     let mut kept = calls::fresh();
-    loop {
-        view = next(window, view);
+    for number in 1..u64::MAX {
+        view = next(reader, window, view)?;
         if view.size == 0 {
-            end(window, view, number, out, at);
-            return;
+            return end(writer, window, view, number, out, at);
         }
         let call = input::call(window, view);
         let turn = calls::answered(
@@ -58,19 +62,16 @@ fn stream(
         );
         let after = turn.kept;
         kept = after;
-        at = roomy(out, turn.at);
-        if u64::MAX <= number {
-            return;
-        }
-        number += 1;
+        at = roomy(writer, out, turn.at)?;
     }
+    flush(writer, out, at)
 }
 
 // The next call in the window, with its size; 0 where there is none, or a malformed one.
-fn next(window: &mut [u8; WINDOW], view: View) -> View {
-    let mut view = input::ready(window, input::behind(view));
+fn next<R: Read>(reader: &mut R, window: &mut [u8; WINDOW], view: View) -> io::Result<View> {
+    let mut view = input::ready(reader, window, input::behind(view))?;
     view.size = size(input::rest(window, view));
-    view
+    Ok(view)
 }
 
 fn size(rest: &[u8]) -> usize {
@@ -79,26 +80,32 @@ fn size(rest: &[u8]) -> usize {
 }
 
 // The end of the stream, or of what can be understood of it.
-fn end(window: &[u8; WINDOW], view: View, number: u64, out: &mut [u8; SPACE], at: usize) {
+fn end<W: Write>(
+    writer: &mut W,
+    window: &[u8; WINDOW],
+    view: View,
+    number: u64,
+    out: &mut [u8; SPACE],
+    at: usize,
+) -> io::Result<()> {
     let rest = input::rest(window, view);
     if rest.len() == 0 {
-        flush(out, at);
-        return;
+        return flush(writer, out, at);
     }
     let at = answer::write(answer::one(answer::MALFORMED, number), out, at);
     let at = out::byte(out, at, b'\n');
-    flush(out, at);
+    flush(writer, out, at)
 }
 
 // Where little room is left, what was answered is written out.
-fn roomy(out: &[u8; SPACE], at: usize) -> usize {
+fn roomy<W: Write>(writer: &mut W, out: &[u8; SPACE], at: usize) -> io::Result<usize> {
     if at <= SPACE - LINE {
-        return at;
+        return Ok(at);
     }
-    flush(out, at);
-    0
+    flush(writer, out, at)?;
+    Ok(0)
 }
 
-fn flush(out: &[u8; SPACE], at: usize) {
-    io::write_all(STDOUT_FILENO, operands::first(out, at));
+fn flush<W: Write>(writer: &mut W, out: &[u8; SPACE], at: usize) -> io::Result<()> {
+    writer.write_all(operands::first(out, at))
 }

@@ -1,7 +1,10 @@
 // Reassembly: fragments of one stream arrive.
 use crate::show;
+use crate::show::Sheet;
 use data_fields::ChunkPayloadData;
 use reassembly_queue::{BYTES, ReassemblyQueue, Took, WORDS};
+use std::io;
+use std::io::{Read, Write};
 
 // The fields of a fragment of stream 0: ordered, or unordered with SSN 0.
 pub fn ordered(b: bool, e: bool, tsn: u32, ssn: u16) -> ChunkPayloadData {
@@ -24,72 +27,81 @@ pub fn unordered(b: bool, e: bool, tsn: u32) -> ChunkPayloadData {
 }
 
 // Pushes a fragment, and shows the answer.
-fn push(
+fn push<R: Read, W: Write>(
+    sheet: &mut Sheet<R, W>,
     queue: ReassemblyQueue,
     table: &mut [u32; WORDS],
     pool: &mut [u8; BYTES],
     fields: ChunkPayloadData,
     user_data: &[u8],
-) -> ReassemblyQueue {
+) -> io::Result<ReassemblyQueue> {
     let pushed = queue.push(table, pool, fields, user_data);
     let answer = pushed.answer;
-    show::flag(answer);
-    pushed.queue
+    show::flag(sheet, answer)?;
+    Ok(pushed.queue)
 }
 
-pub fn p9() {
+pub fn p9<R: Read, W: Write>(sheet: &mut Sheet<R, W>) -> io::Result<()> {
     let mut table = [0u32; WORDS];
     let mut pool = [0u8; BYTES];
     let new = ReassemblyQueue::new(0, 10);
     let held = new.push(&mut table, &mut pool, unordered(true, false, 1), b"123456");
     let fields = unordered(false, true, 2);
-    let q = push(held.queue, &mut table, &mut pool, fields, b"12345");
-    push(q, &mut table, &mut pool, fields, b"1234");
+    let q = push(sheet, held.queue, &mut table, &mut pool, fields, b"12345")?;
+    push(sheet, q, &mut table, &mut pool, fields, b"1234")?;
+    Ok(())
 }
 
-pub fn p10() {
+pub fn p10<R: Read, W: Write>(sheet: &mut Sheet<R, W>) -> io::Result<()> {
     let mut table = [0u32; WORDS];
     let mut pool = [0u8; BYTES];
     let mut q = ReassemblyQueue::new(0, 10);
     q.next_ssn = 5;
     let fields = ordered(true, true, 1, 4);
-    let q = push(q, &mut table, &mut pool, fields, b"12345678901");
-    push(q, &mut table, &mut pool, fields, b"1234567890");
+    let q = push(sheet, q, &mut table, &mut pool, fields, b"12345678901")?;
+    push(sheet, q, &mut table, &mut pool, fields, b"1234567890")?;
+    Ok(())
 }
 
-pub fn p11() {
+pub fn p11<R: Read, W: Write>(sheet: &mut Sheet<R, W>) -> io::Result<()> {
     let mut table = [0u32; WORDS];
     let mut pool = [0u8; BYTES];
-    let q = arrived(&mut table, &mut pool);
-    let q = take(q, &mut table, &mut pool);
-    take(q, &mut table, &mut pool);
+    let q = arrived(sheet, &mut table, &mut pool)?;
+    let q = take(sheet, q, &mut table, &mut pool)?;
+    take(sheet, q, &mut table, &mut pool)?;
+    Ok(())
 }
 
 // One SSN: TSN 1 with B, 3 with E, 2 with both.
-fn arrived(table: &mut [u32; WORDS], pool: &mut [u8; BYTES]) -> ReassemblyQueue {
+fn arrived<R: Read, W: Write>(
+    sheet: &mut Sheet<R, W>,
+    table: &mut [u32; WORDS],
+    pool: &mut [u8; BYTES],
+) -> io::Result<ReassemblyQueue> {
     let q = ReassemblyQueue::new(0, 10);
-    let q = push(q, table, pool, ordered(true, false, 1, 0), b"a");
-    let q = push(q, table, pool, ordered(false, true, 3, 0), b"c");
-    push(q, table, pool, ordered(true, true, 2, 0), b"b")
+    let q = push(sheet, q, table, pool, ordered(true, false, 1, 0), b"a")?;
+    let q = push(sheet, q, table, pool, ordered(false, true, 3, 0), b"c")?;
+    push(sheet, q, table, pool, ordered(true, true, 2, 0), b"b")
 }
 
 // Takes a message, and shows it with the number of fragments that went with it.
-fn take(
+fn take<R: Read, W: Write>(
+    sheet: &mut Sheet<R, W>,
     queue: ReassemblyQueue,
     table: &mut [u32; WORDS],
     pool: &mut [u8; BYTES],
-) -> ReassemblyQueue {
+) -> io::Result<ReassemblyQueue> {
     let mut buffer = [0u8; 16];
     let taken = queue.read(table, pool, &mut buffer);
     let answer = taken.answer;
     match answer {
-        Took::Refused(k) => show::refused(k),
-        Took::Nothing => show::word(b"none"),
+        Took::Refused(k) => show::refused(sheet, k)?,
+        Took::Nothing => show::word(sheet, b"none")?,
         Took::Message(m) => {
-            show::number(queue.ordered as u64);
-            show::text();
-            print::quoted(print::first(&buffer, m.size));
+            show::number(sheet, queue.ordered as u64)?;
+            show::text(sheet)?;
+            print::quoted(&mut sheet.filled, print::first(&buffer, m.size))?;
         }
     }
-    taken.queue
+    Ok(taken.queue)
 }

@@ -1,6 +1,9 @@
 // The message in hand.
 use crate::show;
+use crate::show::Sheet;
 use chunks::{Chunks, Number, Piece};
+use std::io;
+use std::io::{Read, Write};
 
 // A message of so many bytes, just taken.
 fn message(size: usize) -> Chunks {
@@ -13,44 +16,48 @@ fn message(size: usize) -> Chunks {
     }
 }
 
-pub fn p12() {
-    pieces(10, b"1234567890", 4);
-    pieces(0, b"", 2);
+pub fn p12<R: Read, W: Write>(sheet: &mut Sheet<R, W>) -> io::Result<()> {
+    pieces(sheet, 10, b"1234567890", 4)?;
+    pieces(sheet, 0, b"", 2)
 }
 
 // Prints how long the next n pieces of at most four bytes are.
-fn pieces(size: usize, buffer: &[u8], n: usize) {
+fn pieces<R: Read, W: Write>(
+    sheet: &mut Sheet<R, W>,
+    size: usize,
+    buffer: &[u8],
+    n: usize,
+) -> io::Result<()> {
     let mut m = message(size);
-    let mut i: usize = 0;
-    while i < n {
+    for _ in 0..n {
         let next = m.next(buffer, 4);
         m = next.message;
-        i += 1;
         let answer = next.answer;
         match answer {
-            Piece::Refused(k) => show::refused(k),
-            Piece::Nothing => show::word(b"none"),
-            Piece::At(part) => length(part.size),
+            Piece::Refused(k) => show::refused(sheet, k)?,
+            Piece::Nothing => show::word(sheet, b"none")?,
+            Piece::At(part) => length(sheet, part.size)?,
         }
     }
+    Ok(())
 }
 
-fn length(n: usize) {
+fn length<R: Read, W: Write>(sheet: &mut Sheet<R, W>, n: usize) -> io::Result<()> {
     if n == 0 {
-        show::word(b"one empty piece");
+        show::word(sheet, b"one empty piece")
     } else {
-        show::number(n as u64);
+        show::number(sheet, n as u64)
     }
 }
 
-pub fn short_buffer() {
+pub fn short_buffer<R: Read, W: Write>(sheet: &mut Sheet<R, W>) -> io::Result<()> {
     let mut out = [0u8; 4];
     let m = message(6);
     let answer = m.read(b"abcdef", &mut out);
-    show::text();
-    print::quoted(&out);
+    show::text(sheet)?;
+    print::quoted(&mut sheet.filled, &out)?;
     match answer {
-        Number::Refused(k) => show::refused(k),
-        Number::Is(n) => show::number(n as u64),
+        Number::Refused(k) => show::refused(sheet, k),
+        Number::Is(n) => show::number(sheet, n as u64),
     }
 }

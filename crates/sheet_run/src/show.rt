@@ -1,50 +1,56 @@
-// The sheet's text comes from standard input, and each answer goes into its next blank, a %.
+// The sheet's text comes from a reader, and each answer goes into its next blank, a %.
 use chunks::Flag;
-use libc::STDIN_FILENO;
+use std::io;
+use std::io::{Read, Write};
 
 // No text between two blanks is longer.
 const LONGEST: usize = 200;
 
+// The sheet as it comes, and as it goes out.
+#[derive(Drop)]
+pub struct Sheet<R, W> {
+    pub blank: R,
+    pub filled: W,
+}
+
 // The text up to the next blank, or to its end.
-pub fn text() {
-    let mut i: usize = 0;
-    while i < LONGEST {
-        let mut one = [b'%'; 1];
-        io::read_full(STDIN_FILENO, &mut one);
-        if one[0] == b'%' {
-            return;
+pub fn text<R: Read, W: Write>(sheet: &mut Sheet<R, W>) -> io::Result<()> {
+    for byte in sheet.blank.by_ref().bytes().take(LONGEST) {
+        let b = byte?;
+        if b == b'%' {
+            break;
         }
-        print::text(&one);
-        i += 1;
+        print::text(&mut sheet.filled, &[b])?;
     }
+    Ok(())
 }
 
-pub fn word(s: &[u8]) {
-    text();
-    print::text(s);
+pub fn word<R: Read, W: Write>(sheet: &mut Sheet<R, W>, s: &[u8]) -> io::Result<()> {
+    text(sheet)?;
+    print::text(&mut sheet.filled, s)
 }
 
-pub fn number(n: u64) {
-    text();
-    print::number(n);
+pub fn number<R: Read, W: Write>(sheet: &mut Sheet<R, W>, n: u64) -> io::Result<()> {
+    text(sheet)?;
+    print::number(&mut sheet.filled, n)
 }
 
 // A block, by its start and its end.
-pub fn block(start: u16, end: u16) {
-    text();
-    print::filled(b"%-%", [start as u64, end as u64, 0, 0]);
+pub fn block<R: Read, W: Write>(sheet: &mut Sheet<R, W>, start: u16, end: u16) -> io::Result<()> {
+    text(sheet)?;
+    print::filled(&mut sheet.filled, b"%-%", [start as u64, end as u64, 0, 0])
 }
 
-pub fn refused(k: u8) {
-    number(k as u64);
+pub fn refused<R: Read, W: Write>(sheet: &mut Sheet<R, W>, k: u8) -> io::Result<()> {
+    number(sheet, k as u64)
 }
 
-pub fn flag(answer: Flag) {
+pub fn flag<R: Read, W: Write>(sheet: &mut Sheet<R, W>, answer: Flag) -> io::Result<()> {
     match answer {
-        Flag::Refused(k) => refused(k),
+        Flag::Refused(k) => refused(sheet, k),
         Flag::Is(b) => {
-            text();
-            print::one_of(b"false|true", b as usize);
+            text(sheet)?;
+            print::one_of(&mut sheet.filled, b"false|true", b as usize)
         }
     }
 }

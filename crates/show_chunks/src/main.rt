@@ -1,9 +1,13 @@
 // Reads chunks, prints what they say, and writes them again. The bytes and the fields are those of document 01, "Bench sheet", and of
 // RFC 4960 section 3.3.4.
 #![tactic(auto)]
+
 mod outcome;
 mod show_data;
 mod show_sack;
+
+use std::io;
+use std::io::{BufWriter, Write};
 
 // P2: B and E, TSN 10, stream 2, SSN 5, identifier 51, "abc".
 const P2: [u8; 19] =
@@ -24,15 +28,17 @@ const WORKED: [u8; 24] =
 // P4: a DATA chunk whose length, 15, ends before its identifier does.
 const P4: [u8; 16] = *b"\x00\x03\x00\x0F\x00\x00\x00\x0A\x00\x02\x00\x05\x00\x00\x00\x33";
 
-fn main() {
+fn main(rt: HostRuntime) -> io::Result<()> {
+    let mut writer = BufWriter::new(rt.alloc(), rt.stdout())?;
     let p2 = P2;
-    show_data::show(b"DATA, bench sheet P2", &p2);
+    show_data::show(&mut writer, b"DATA, bench sheet P2", &p2)?;
     let p3 = P3;
-    show_data::show(b"\nDATA, bench sheet P3", &p3);
+    show_data::show(&mut writer, b"\nDATA, bench sheet P3", &p3)?;
     let p5 = P5;
-    show_sack::show(b"\nSACK, bench sheet P5", &p5);
+    show_sack::show(&mut writer, b"\nSACK, bench sheet P5", &p5)?;
     let worked = WORKED;
-    show_sack::show(b"\nSACK, RFC 4960 section 3.3.4", &worked);
+    show_sack::show(&mut writer, b"\nSACK, RFC 4960 section 3.3.4", &worked)?;
     let p4 = P4;
-    show_data::show(b"\nDATA of length 15, bench sheet P4", &p4);
+    show_data::show(&mut writer, b"\nDATA of length 15, bench sheet P4", &p4)?;
+    writer.flush()
 }

@@ -1,4 +1,4 @@
--- `replay_words::put_at` meets its contract: the bytes go into what is left behind the first ones.
+-- The bytes go into what is left behind the first ones.
 use Rattle.replay_words.proofs.Put.{put-behind}
 use Rattle.replay_words.proofs.put_at.Goals as goal
 

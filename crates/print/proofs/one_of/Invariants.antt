@@ -1,9 +1,0 @@
--- `print::one_of` is safe, and ends: the measure is what is left of the texts. Assumes nothing.
-use Rattle.std.proofs.Common.{◌-◌, length}
-use Rattle.print.proofs.one_of.Given as goal
-
-abbrev pub invariant-loop-i : goal.invariant-loop-i
-invariant-loop-i l = Unit {0}
-
-abbrev pub decreases-loop-i : goal.decreases-loop-i
-decreases-loop-i l = length l.texts - l.i
