@@ -10,16 +10,16 @@ loop-i-init c =
     let a = c.args in
     put_none a.cumulative a.size a.n a.table.now a.starts.now a.ends.now c.requires.table_len c.requires.n_le_size c.requires.table_in_bounds c.requires.table_in_bounds_2
 
+pub overflow_cast-ends : goal.overflow_cast-ends
+overflow_cast-ends c =
+    let i = c.loop-i in
+    omega (arith, follow_few i.invariant (i.i + 1) (65535 - c.tsn_offset-offset.result) c.tsn_next.result c.following-more.ensures)
+
 pub overflow_cast-last : goal.overflow_cast-last
 overflow_cast-last c = omega (arith, overflow_cast-ends c)
 
 pub overflow_add-last : goal.overflow_add-last
 overflow_add-last c = omega (arith, overflow_cast-ends c)
-
-pub overflow_cast-ends : goal.overflow_cast-ends
-overflow_cast-ends c =
-    let i = c.loop-i in
-    omega (arith, follow_few i.invariant (i.i + 1) (65535 - c.tsn_offset-offset.result) c.tsn_next.result c.following-more.ensures)
 
 -- the block to extend
 pub overflow_sub-ends : goal.overflow_sub-ends
@@ -34,16 +34,16 @@ bounds-ends-count c = omega (arith, overflow_sub-ends c, put-room c.loop-i.invar
 pub overflow_add-want : goal.overflow_add-want
 overflow_add-want c = omega (arith, overflow_cast-ends c)
 
+pub loop-i-preserved-then-offset-want : goal.loop-i-preserved-then-offset-want
+loop-i-preserved-then-offset-want c =
+    let f = rw c.tsn_next.ensures at c.following-more.ensures in
+    put_follow c.loop-i.invariant (omega arith) c.tsn_offset-offset.ensures c.if-offset-gt0.true c.if-offset-le-FARTHEST.true c.if-offset-want.true c.following-more.result f
+
 pub overflow_add-i-then-offset-want : goal.overflow_add-i-then-offset-want
 overflow_add-i-then-offset-want c = omega (arith, (loop-i-preserved-then-offset-want c).seen.within)
 
 pub loop-i-smaller-then-offset-want : goal.loop-i-smaller-then-offset-want
 loop-i-smaller-then-offset-want c = omega (arith, (loop-i-preserved-then-offset-want c).seen.within)
-
-pub loop-i-preserved-then-offset-want : goal.loop-i-preserved-then-offset-want
-loop-i-preserved-then-offset-want c =
-    let f = rw c.tsn_next.ensures at c.following-more.ensures in
-    put_follow c.loop-i.invariant (omega arith) c.tsn_offset-offset.ensures c.if-offset-gt0.true c.if-offset-le-FARTHEST.true c.if-offset-want.true c.following-more.result f
 
 pub offset_bounds-starts-count : goal.offset_bounds-starts-count
 offset_bounds-starts-count c = omega (arith, put-room c.loop-i.invariant)
@@ -66,11 +66,11 @@ loop-i-preserved-else-offset-le-FARTHEST c = put_skip c.loop-i.invariant (omega 
 pub loop-i-preserved : goal.loop-i-preserved
 loop-i-preserved c = put_skip c.loop-i.invariant (omega arith) c.tsn_offset-offset.ensures (low _ c.if-offset-gt0.false)
 
-pub returns-clause-value : goal.returns-clause-value
-returns-clause-value c = (put-room c.loop-i.invariant).2
-
-pub returns-clause-starts_after : goal.returns-clause-starts_after
-returns-clause-starts_after c = (put-room c.loop-i.invariant).3
-
-pub returns-clause-ends_after : goal.returns-clause-ends_after
-returns-clause-ends_after c = put_all c.loop-i.invariant c.loop-i-test.false
+pub returns : goal.returns
+returns c =
+    let whole = put_all c.loop-i.invariant c.loop-i-test.false in
+    record {
+      value = whole.0;
+      starts_after = whole.1.0;
+      ends_after = whole.1.1;
+    }

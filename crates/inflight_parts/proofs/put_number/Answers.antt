@@ -1,6 +1,5 @@
 -- `inflight_parts::put_number` meets its contract: the loop keeps `Putting`.
 use native.Mathlib.Omega.{arith}
-use lib.ListN.{length-set}
 use Rattle.moves_model.proofs.Moves.{putting_none, putting_turn, putting_done}
 use Rattle.inflight_parts.proofs.put_number.Goals as goal
 
@@ -11,9 +10,6 @@ pub loop-i-preserved : goal.loop-i-preserved
 loop-i-preserved c =
     let a = c.args in
     (putting_turn a.col.now a.n a.at a.x (omega arith) (omega arith) (omega arith) (omega arith) c.loop-i.invariant.0, omega arith, omega arith)
-
-pub bounds-col-at : goal.bounds-col-at
-bounds-col-at c = simp length-set c.loop-i.invariant.0.kept
 
 pub returns : goal.returns
 returns c =

@@ -32,9 +32,6 @@ overflow_add-at c =
     let room : ( let n = c.in-Bytes.n in (4 ≤ n) × (c.loop-at.at + n ≤ length c.args.chunks.now)) = let g = good in chunk-room c.loop-at.invariant.2 (omega arith) g.0 g.1 in
     omega (arith, room)
 
-pub overflow_add-size : goal.overflow_add-size
-overflow_add-size c = let t = loop-at-preserved c in omega (arith, t.1, t.2.less, t.2.within)
-
 pub loop-at-smaller : goal.loop-at-smaller
 loop-at-smaller c =
     let good : ( let rest = drop c.loop-at.at c.args.chunks.now in (first (front_checks rest) ≡ none) × (c.in-Bytes.n ≡ front_size rest)) = let chunks = c.args.chunks.now in size-told (drop c.loop-at.at chunks) (rw (c.in-Bytes.is, left-whole chunks c.loop-at.at) at c.chunk_size-front.ensures.result_value) in
@@ -49,6 +46,9 @@ loop-at-preserved c =
     let chunk = take c.in-Bytes.n (drop c.loop-at.at c.args.chunks.now) in
     let long = padded-length chunk ∙ ap rounded (chunk-length inv.2 (omega arith) g.0 g.1) in
     (inv.0 ++ padded chunk, rw (length-append, long, inv.1, c.padded_size-size.ensures), turn inv.2 (omega arith) g.0 g.1)
+
+pub overflow_add-size : goal.overflow_add-size
+overflow_add-size c = let t = loop-at-preserved c in omega (arith, t.1, t.2.less, t.2.within)
 
 pub returns : goal.returns
 unfolding body_size

@@ -103,8 +103,5 @@ loop-at-preserved c =
       skip_goes c.loop-at.invariant.1 (omega arith) c.set_at-k.ensures c.sum_long-size.ensures c.passed_over.ensures c.if-not-passed_over.false,
     )
 
-pub overflow_sub-left : goal.overflow_sub-left
-overflow_sub-left c = skip_pool c.loop-at.invariant.1
-
 pub returns : goal.returns
 returns c = skip_all c.loop-at.invariant.1 (omega arith)

@@ -46,8 +46,8 @@ close_fragments-requires c =
       bytes_value = p.size_value;
     }
 
-pub returns-clause-buffer_after : goal.returns-clause-buffer_after
-returns-clause-buffer_after c =
+pub returns : goal.returns
+returns c =
     let rows = rows_of frags_most c.args.table.now in
     let full : length rows ≡ frags_most = rows_long frags_most c.args.table.now c.requires.table_len in
     let fits : B (take c.args.held rows) ≤ length c.args.pool.now = omega (arith, c.requires) in

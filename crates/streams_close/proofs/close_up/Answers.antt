@@ -14,5 +14,10 @@ returns-then-place-off c =
       pool_after = nothing-gone a.left.n_bytes a.queue.n_bytes (a.queue.n_bytes + a.behind.bytes) a.pool.now c.if-place-off.true;
     }
 
-pub returns-clause-pool_after : goal.returns-clause-pool_after
-returns-clause-pool_after c = c.move_down.ensures
+pub returns : goal.returns
+returns c =
+    let whole = c.move_down.ensures in
+    record {
+      table_after = whole.0;
+      pool_after = whole.1;
+    }

@@ -27,8 +27,8 @@ returns-then-has_before c = c.walk_back.ensures ∙ sym c.loop-left.invariant.1
 pub loop-left-preserved : goal.loop-left-preserved
 loop-left-preserved c =
     let a = c.args in
-    let b = c.loop-left.false - 16 in
-    (omega arith, c.loop-left.invariant.1 ∙ last-passed-all (tsn_before a.tsn) (rows_of a.size a.table.now) a.from b 16 c.loop-left.false (omega arith) (sym c.has_before.ensures ∙ c.if-has_before.false))
+    let b = c.loop-left.left - 16 in
+    (omega arith, c.loop-left.invariant.1 ∙ last-passed-all (tsn_before a.tsn) (rows_of a.size a.table.now) a.from b 16 c.loop-left.left (omega arith) (sym c.has_before.ensures ∙ c.if-has_before.false))
 
 pub returns : goal.returns
 returns c = c.walk_back-2.ensures ∙ sym c.loop-left.invariant.1

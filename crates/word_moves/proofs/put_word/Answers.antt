@@ -12,9 +12,6 @@ loop-i-preserved c =
     let a = c.args in
     (putting_turn a.col.now a.n a.at a.x (omega arith) (omega arith) (omega arith) (omega arith) c.loop-i.invariant.0, omega arith, omega arith)
 
-pub bounds-col-at : goal.bounds-col-at
-bounds-col-at c = simp length-set c.loop-i.invariant.0.kept
-
 pub returns : goal.returns
 returns c =
     let a = c.args in
