@@ -7,10 +7,8 @@ use lib.Dec.{eqb}
 use borrow.Author.Tests.{eq-eqb, ne_eqb}
 use Rattle.serial_model.specs.Serial.{next}
 use Rattle.loose_fragments.proofs.Run.{run_none, run_missed, run-last, run_on, run-all}
+use Rattle.loose_fragments.proofs.run_up.Invariants.{last}
 use Rattle.loose_fragments.proofs.run_up.Goals as goal
-
-abbrev last : ℕ → Bool
-last flags = eqb (flags % 2) 1
 
 pub loop-i-init : goal.loop-i-init
 loop-i-init c =
