@@ -6,6 +6,7 @@ use Rattle.loose_fragments.specs.Loose.{previous}
 use Rattle.loose_fragments.proofs.Run.{Run}
 use Rattle.loose_fragments.proofs.run_down.Given as goal
 
+-- the run ends with it
 abbrev pub last : ℕ → Bool
 last flags = eqb (flags / 2 % 2) 1
 

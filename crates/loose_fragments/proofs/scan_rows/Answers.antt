@@ -17,9 +17,7 @@ pub returns-then-start-i : goal.returns-then-start-i
 returns-then-start-i c = scan_found c.loop-i.invariant.1 (omega arith) refl refl c.starts-start.ensures (eq-eqb _ _ c.if-flags-eq1.true) (omega arith)
 
 pub loop-i-preserved : goal.loop-i-preserved
-loop-i-preserved c =
-    let on = scan-on c.loop-i.invariant.1 (omega arith) refl refl c.starts-start.ensures in
-    (refl, rw c.tsn_next-want.ensures (elim c.if-flags-eq1.branch [ then-flags-eq1+else-start-i w ↦ on (inl w.if-start-i.false) | else-flags-eq1 w ↦ on (inr (ne_eqb _ _ w.if-flags-eq1.false)) ]))
+loop-i-preserved c = (refl, rw c.tsn_next-want.ensures (scan-on c.loop-i.invariant.1 (omega arith) refl refl c.starts-start.ensures (elim c.if-flags-eq1.branch [ then-flags-eq1+else-start-i w ↦ inl w.if-start-i.false | else-flags-eq1 w ↦ inr (ne_eqb _ _ w.if-flags-eq1.false) ])))
 
 pub returns : goal.returns
 returns c = scan-all c.loop-i.invariant.1 c.loop-i-test.false
