@@ -17,13 +17,13 @@ pub overflow_add-off : goal.overflow_add-off
 overflow_add-off c =
     let place : (n : ℕ) → n ≤ c.args.bytes → Fits w64 n = λ n h. search rules in
     let rows = rows_of frags_most c.args.table.now in
-    let ends : c.args.off + c.args.size ≤ c.args.bytes = let p = c.requires in omega (arith, run_end rows c.args.pool.now c.args.held c.args.from c.args.k p.k_bound, p.table_value, p.1.1.1.1) in
+    let ends : c.args.off + c.args.size ≤ c.args.bytes = omega (arith, run_end rows c.args.pool.now c.args.held c.args.from c.args.k c.requires.k_bound, c.requires) in
     place (c.args.off + c.args.size) ends
 
 pub slice_bounds-put_bytes-end : goal.slice_bounds-put_bytes-end
 slice_bounds-put_bytes-end c =
     let rows = rows_of frags_most c.args.table.now in
-    let ends : c.args.off + c.args.size ≤ c.args.bytes = let p = c.requires in omega (arith, run_end rows c.args.pool.now c.args.held c.args.from c.args.k p.k_bound, p.table_value, p.1.1.1.1) in
+    let ends : c.args.off + c.args.size ≤ c.args.bytes = omega (arith, run_end rows c.args.pool.now c.args.held c.args.from c.args.k c.requires.k_bound, c.requires) in
     omega (arith, ends, c.requires)
 
 pub row_at-first-requires : goal.row_at-first-requires
@@ -57,9 +57,6 @@ returns c =
     record {
       result_value = run-message rows a.pool.now a.held a.from a.k p.k_bound p.k_nonzero (omega (arith, full, c.requires)) fits a.ordered c.row_at-first.ensures sized c.in_hand.ensures;
       table_after = c.close_fragments.ensures.table_after;
-      pool_after = (
-          c.close_fragments.ensures.pool_after,
-          run_out rows a.pool.now a.held a.from a.k p.k_bound a.buffer.now p.off_value sized c.put_bytes.ensures,
-        );
-      buffer_after = ;
+      pool_after = c.close_fragments.ensures.pool_after;
+      buffer_after = run_out rows a.pool.now a.held a.from a.k p.k_bound a.buffer.now p.off_value sized c.put_bytes.ensures;
     }
