@@ -41,7 +41,7 @@ pub list-requires : goal.list-requires
 list-requires c =
     let taken : ( let end = c.in-Header.h.length in (first (checks c.before.before) ≡ none) × (end ≡ front_size (raw c.before.before)) × (4 ≤ end) × (end ≤ length (raw c.before.before)) × (end ≤ 65535)) = let t = told-taken (checks c.before.before) (front_header (raw c.before.before)) c.unmarshal_as-front.result (c.unmarshal_as-front.ensures.result_value (header-there (raw c.before.before) (bytes c.before.before))) c.in-Header.is in let same = ap (λ (h : Header). h.size) t.1 in let room = rw c.in-Header.is at c.unmarshal_as-front.ensures.room in (t.0, same, room.0, room.1, omega (arith, same, (header_fits (raw c.before.before) (bytes c.before.before)).size)) in
     let t = taken in
-    let len = length-take-le c.front-in-Header-1.given.0.0.length (raw c.before.before) t.3 in
+    let len = length-take-le c.in-Header.h.length (raw c.before.before) t.3 in
     record {
       in_bounds = rw len t.2;
       raw_len_bound = rw len t.4;
