@@ -72,12 +72,12 @@ put_back-requires c =
     let ready = c.make_room.ensures in
     let fronted :  Fronted of c.args.stream (keep_ordered (own of c.args.stream) new).queue c.keep-left.result.queue (rows_of frags_most c.keep-left.new.table) c.keep-left.new.pool = kept_fronted of ok full c.args.stream here new ready c.keep-left.ensures in
     let others : let p = c.args.place in Others of.queues c.args.stream p.before.rows p.before.bytes p.behind.rows p.behind.bytes = search rules in
-    let whole = (here, front_fits of ok full c.args.stream here fronted others) in
+    let rest = front_fits of ok full c.args.stream here fronted others in
     record {
-      stream_lt_streams_most = whole.0;
-      rows_le_finished = whole.1.0;
-      rows_le_ordered = whole.1.1.0;
-      bytes_bound = whole.1.1.1;
+      stream_lt_streams_most = here;
+      rows_le_finished = rest.0;
+      rows_le_ordered = rest.1.0;
+      bytes_bound = rest.1.1;
     }
 
 pub returns : goal.returns

@@ -69,12 +69,12 @@ put_back-requires c =
     let front : c.among_front-place.result.queue ≡ among_none of.queues c.args.stream = c.among_front-place.ensures.queue_value in
     let shrunk :  Shrunk of c.args.stream (skip_ordered (own of c.args.stream) c.args.last_ssn) c.among_front-place.result.queue c.skip_ordered-left.result (rows_of frags_most c.skip_ordered-left.new.table) c.skip_ordered-left.new.pool = ordered_shrunk of ok full c.args.stream here front c.args.last_ssn c.skip_ordered-left.ensures in
     let fronted :  Fronted of c.args.stream (skip_ordered (own of c.args.stream) c.args.last_ssn) c.skip_ordered-left.result (rows_of frags_most c.close_up.new.table) c.close_up.new.pool = closed of ok full c.args.stream here front shrunk c.among_front-place.ensures.others c.close_up.ensures.table_after c.close_up.ensures.pool_after in
-    let whole = (here, front_fits of ok full c.args.stream here fronted c.among_front-place.ensures.others) in
+    let rest = front_fits of ok full c.args.stream here fronted c.among_front-place.ensures.others in
     record {
-      stream_lt_streams_most = whole.0;
-      rows_le_finished = whole.1.0;
-      rows_le_ordered = whole.1.1.0;
-      bytes_bound = whole.1.1.1;
+      stream_lt_streams_most = here;
+      rows_le_finished = rest.0;
+      rows_le_ordered = rest.1.0;
+      bytes_bound = rest.1.1;
     }
 
 pub returns : goal.returns

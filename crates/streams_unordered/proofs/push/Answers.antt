@@ -52,12 +52,12 @@ put_back-requires c =
     let full : length of.rows ≡ frags_most = rows_long frags_most c.args.table.now (search rules) in
     let new = fragment_of c.args.chunk c.args.user_data.now in
     let left :  Left of c.args.stream (push_unordered c.args.room (own of c.args.stream) new).queue c.push-left.result.queue (rows_of frags_most c.push-left.new.table) c.push-left.new.pool = unordered-left of ok full c.args.stream here c.among_all-among.ensures.queue_value c.args.room new c.push-left.ensures in
-    let whole = (here, left_fits of ok full c.args.stream here left c.among_all-among.ensures.others) in
+    let rest = left_fits of ok full c.args.stream here left c.among_all-among.ensures.others in
     record {
-      stream_lt_streams_most = whole.0;
-      rows_le_finished = whole.1.0;
-      rows_le_ordered = whole.1.1.0;
-      bytes_bound = whole.1.1.1;
+      stream_lt_streams_most = here;
+      rows_le_finished = rest.0;
+      rows_le_ordered = rest.1.0;
+      bytes_bound = rest.1.1;
     }
 
 pub returns : goal.returns
