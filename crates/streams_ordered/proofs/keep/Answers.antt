@@ -58,8 +58,8 @@ keep-left-requires c =
       pool_value = r.sound;
       queue_bound = fits.0;
       user_data_bound = fits.1;
-      at_value = stands.0 ∙ sym (r.set_at c.args.chunk.stream_sequence_number);
-      run_value = stands.1 ∙ sym (r.set_run c.args.chunk.stream_sequence_number);
+      at_value = stands.0 ∙ sym (r.set-at c.args.chunk.stream_sequence_number);
+      run_value = stands.1 ∙ sym (r.set-run c.args.chunk.stream_sequence_number);
     }
 
 pub put_back-requires : goal.put_back-requires
