@@ -1,5 +1,6 @@
 // The FORWARD TSN chunk of RFC 3758 section 3.2: read here; an entry of its list, and the chunk written, are handed on.
 #![tactic(auto)]
+
 ghost use Rattle.std.specs.Prelude.{◌≡◌, length};
 ghost use Rattle.chunk.specs.Header.{HeaderFront, header_told, header_read, Room};
 ghost use Rattle.chunk.specs.Part.{part};

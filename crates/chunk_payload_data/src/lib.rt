@@ -1,5 +1,6 @@
 // The DATA chunk of RFC 4960 section 3.3.1: its fields read, and the chunk written from them. Its struct, header, user data and flags byte, and the names of identifiers, are handed on.
 #![tactic(auto)]
+
 ghost use Rattle.std.specs.Prelude.{◌≡◌, ◌≤◌, length};
 ghost use Rattle.wire_model.specs.Refusal.{written};
 ghost use Rattle.chunk.specs.Marshal.{marshal_told};

@@ -1,5 +1,6 @@
 // The header of a DATA chunk (RFC 4960 section 3.3.1), and its user data where they lie.
 #![tactic(auto)]
+
 ghost use Rattle.std.specs.Prelude.{◌≡◌, length};
 ghost use Rattle.chunk.specs.Header.{HeaderFront, header_told, header_read, Room};
 ghost use Rattle.chunk.specs.Part.{part};

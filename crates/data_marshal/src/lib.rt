@@ -1,5 +1,6 @@
 // The DATA chunk of RFC 4960 section 3.3.1, written from the numbers in it.
 #![tactic(auto)]
+
 ghost use Rattle.std.specs.Prelude.{◌≡◌, length};
 ghost use Rattle.wire_model.specs.Refusal.{written, write};
 ghost use Rattle.chunk.specs.Marshal.{marshal_told};

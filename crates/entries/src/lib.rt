@@ -1,5 +1,6 @@
 // Lists of 4-byte entries, each of two numbers of 2 bytes, put at the front of what is lent.
 #![tactic(auto)]
+
 ghost use Rattle.std.specs.Prelude.{◌≡◌, ◌++◌, ◌*◌, ◌≤◌, length};
 ghost use Rattle.wire_model.specs.BigEndian.{big_endian, over};
 ghost use Rattle.entries.specs.Pairs.{pairs};

@@ -1,5 +1,6 @@
 // What the kinds of chunks write: the header with fields of fixed widths, and lists of 4-byte entries. Each is put at the front of what is lent.
 #![tactic(auto)]
+
 ghost use Rattle.std.specs.Prelude.{◌≡◌, ◌++◌, ◌+◌, ◌*◌, ◌≤◌, length};
 ghost use Rattle.wire_model.specs.BigEndian.{big_endian, over};
 ghost use Rattle.chunk.specs.Layout.{header, header_bytes};

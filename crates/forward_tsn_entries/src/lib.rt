@@ -1,5 +1,6 @@
 // The entries of a FORWARD TSN chunk's list: a stream and an SSN at an index.
 #![tactic(auto)]
+
 ghost use Rattle.std.specs.Prelude.{◌≡◌};
 ghost use Rattle.forward_tsn_entries.specs.Entries.{PairFront, pair_told, pair_read};
 

@@ -1,5 +1,6 @@
 // The FORWARD TSN chunk of RFC 3758 section 3.2, written.
 #![tactic(auto)]
+
 ghost use Rattle.std.specs.Prelude.{◌≡◌};
 ghost use Rattle.wire_model.specs.Refusal.{written};
 ghost use Rattle.chunk.specs.Marshal.{marshal_told};

@@ -1,5 +1,6 @@
 // The common header of a packet: RFC 4960 section 3.1, with the checksum of Appendix B.
 #![tactic(auto)]
+
 ghost use Rattle.std.specs.Prelude.{◌≡◌, ◌++◌, ◌≤◌, length, take, drop};
 ghost use Rattle.crc32c.specs.Crc.{crc32c, little_endian};
 ghost use Rattle.packet.specs.Header.{CommonFront, common_told, common_read};

@@ -1,5 +1,6 @@
 // The chunks of a packet: behind the common header of 12 bytes, one after the other, each padded to a multiple of 4 bytes.
 #![tactic(auto)]
+
 ghost use Rattle.std.specs.Prelude.{◌≡◌};
 ghost use Rattle.packet_chunks.specs.Chunks.{step_told, step_at};
 

@@ -1,5 +1,6 @@
 // The common header of a packet, RFC 4960 section 3.1, written without its checksum.
 #![tactic(auto)]
+
 ghost use Rattle.std.specs.Prelude.{◌≡◌, ◌≤◌, length};
 ghost use Rattle.wire_model.specs.BigEndian.{over};
 ghost use Rattle.packet.specs.Layout.{common, common_bytes};

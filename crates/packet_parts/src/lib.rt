@@ -1,5 +1,6 @@
 // What reading and writing a packet share: the chunk that bytes begin with, its padding, and the order of the checksum's bytes.
 #![tactic(auto)]
+
 ghost use Rattle.std.specs.Prelude.{◌≡◌, length};
 ghost use Rattle.crc32c.specs.Crc.{little_endian};
 ghost use Rattle.wire_model.specs.BigEndian.{big_endian};

@@ -1,5 +1,6 @@
 // The chunk at a place of a packet as a part of it, and the place behind that chunk.
 #![tactic(auto)]
+
 ghost use Rattle.std.specs.Prelude.{◌≡◌};
 ghost use Rattle.packet_places.specs.Walk.{lies, bytes_at, place_after};
 

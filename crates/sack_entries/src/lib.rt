@@ -1,5 +1,6 @@
 // The entries of a SACK chunk's lists: gap ack blocks and duplicate TSNs, each at an index.
 #![tactic(auto)]
+
 ghost use Rattle.std.specs.Prelude.{◌≡◌};
 ghost use Rattle.sack_entries.specs.Entries.{BlockFront, block_told, block_read, TsnFront, tsn_told, tsn_read};
 

@@ -1,5 +1,6 @@
 // The SACK chunk of RFC 4960 section 3.3.4, written.
 #![tactic(auto)]
+
 ghost use Rattle.std.specs.Prelude.{◌≡◌};
 ghost use Rattle.wire_model.specs.Refusal.{written};
 ghost use Rattle.chunk.specs.Marshal.{marshal_told};

@@ -23,14 +23,14 @@ overflow_sub-streams c =
 
 pub returns-in-Refused : goal.returns-in-Refused
 unfolding forward_read
-returns-in-Refused c =
+returns-in-Refused c f =
     let lent = length c.args.raw.now in
     let h = f.fields.header in
     rw (told-refused (forward_checks lent h) h c.header-any.result (c.header-any.ensures.result_value (header-front (big_endian 4) Word 4 f)) c.in-Refused.is)
 
 pub returns-in-Header : goal.returns-in-Header
 unfolding big_endian forward_read header_bytes
-returns-in-Header c =
+returns-in-Header c f =
     let room : (let s = c.in-Header.h.length in (8 ≤ s) × (s ≤ length c.args.raw.now)) = rw c.in-Header.is at c.header-any.ensures.room in
     let lent = length c.args.raw.now in
     let h = f.fields.header in

@@ -12,7 +12,7 @@ use Rattle.chunk_payload_data.proofs.fields.Goals as goal
 
 pub returns : goal.returns
 unfolding big_endian data_held data_shown data_value header_bytes
-returns c =
+returns c f =
     let w = headed_whole data_value DataFits 12 f refl c.requires in
     let d = f.fits.fields in
     rw (

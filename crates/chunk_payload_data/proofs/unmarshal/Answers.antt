@@ -15,14 +15,14 @@ fields-requires c =
 
 pub returns-in-Refused : goal.returns-in-Refused
 unfolding data_read
-returns-in-Refused c =
+returns-in-Refused c f =
     let lent = length c.args.raw.now in
     let h = f.fields.header in
     rw (told-refused (data_checks lent h) h c.header-any.result (c.header-any.ensures.result_value (header-front data_value DataFits 12 f)) c.in-Refused.is)
 
 pub returns-in-Header : goal.returns-in-Header
 unfolding data_read
-returns-in-Header c =
+returns-in-Header c f =
     let lent = length c.args.raw.now in
     let h = f.fields.header in
     let t = told-taken (data_checks lent h) h c.header-any.result (c.header-any.ensures.result_value (header-front data_value DataFits 12 f)) c.in-Header.is in

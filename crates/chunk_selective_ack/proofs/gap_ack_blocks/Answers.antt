@@ -16,11 +16,11 @@ slice_bounds-result-end-in-Fields c =
 
 pub returns-in-Refused : goal.returns-in-Refused
 unfolding blocks_part
-returns-in-Refused c = rw (sack-refused (length c.args.raw.now) f.fields c.read-any.result (c.read-any.ensures.result_value f) c.any-1.given.1)
+returns-in-Refused c f = rw (sack-refused (length c.args.raw.now) f.fields c.read-any.result (c.read-any.ensures.result_value f) c.in-Refused.is)
 
 pub returns-in-Fields : goal.returns-in-Fields
 unfolding blocks_part sack_held
-returns-in-Fields c =
+returns-in-Fields c f =
     let t = sack-taken (length c.args.raw.now) f.fields c.read-any.result (c.read-any.ensures.result_value f) c.in-Fields.is in
     let n = c.in-Fields.s.gap_ack_blocks in
     let size : 16 + 4 * n - 16 ≡ 4 * n = omega arith in

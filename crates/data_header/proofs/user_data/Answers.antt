@@ -9,28 +9,28 @@ use Rattle.data_header.proofs.user_data.Goals as goal
 
 pub slice_bounds-result-count : goal.slice_bounds-result-count
 slice_bounds-result-count c =
-    let room : ( let s = c.in-Header.h.length in (16 ≤ s) × (s ≤ length c.args.raw.now)) = rw c.in-Header.is at c.header-any.ensures.room in
+    let room : (let s = c.in-Header.h.length in (16 ≤ s) × (s ≤ length c.args.raw.now)) = rw c.in-Header.is at c.header-any.ensures.room in
     room.0
 
 pub slice_bounds-result-start : goal.slice_bounds-result-start
 slice_bounds-result-start c =
-    let room : ( let s = c.in-Header.h.length in (16 ≤ s) × (s ≤ length c.args.raw.now)) = rw c.in-Header.is at c.header-any.ensures.room in
+    let room : (let s = c.in-Header.h.length in (16 ≤ s) × (s ≤ length c.args.raw.now)) = rw c.in-Header.is at c.header-any.ensures.room in
     room.0
 
 pub slice_bounds-result-end-in-Header : goal.slice_bounds-result-end-in-Header
 slice_bounds-result-end-in-Header c =
-    let room : ( let s = c.in-Header.h.length in (16 ≤ s) × (s ≤ length c.args.raw.now)) = rw c.in-Header.is at c.header-any.ensures.room in
+    let room : (let s = c.in-Header.h.length in (16 ≤ s) × (s ≤ length c.args.raw.now)) = rw c.in-Header.is at c.header-any.ensures.room in
     room.1
 
 pub returns-in-Refused : goal.returns-in-Refused
 unfolding user_data
-returns-in-Refused c =
+returns-in-Refused c f =
     let lent = length c.args.raw.now in
-    rw (told-refused (data_checks lent f.fields) f.fields c.header-any.result (c.header-any.ensures.result_value f) c.any-1.given.1)
+    rw (told-refused (data_checks lent f.fields) f.fields c.header-any.result (c.header-any.ensures.result_value f) c.in-Refused.is)
 
 pub returns-in-Header : goal.returns-in-Header
 unfolding user_data
-returns-in-Header c =
+returns-in-Header c f =
     let lent = length c.args.raw.now in
     let t = told-taken (data_checks lent f.fields) f.fields c.header-any.result (c.header-any.ensures.result_value f) c.in-Header.is in
     rw (t.0, ← (ap (λ (x : Header). x.size) t.1))

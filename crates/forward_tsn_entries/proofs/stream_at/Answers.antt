@@ -12,11 +12,11 @@ use Rattle.forward_tsn_entries.specs.Layout.{pair_bytes}
 use Rattle.forward_tsn_entries.proofs.stream_at.Goals as goal
 
 pub returns-then-part-i : goal.returns-then-part-i
-returns-then-part-i c = rw (le-leb _ _ c.if-part-i.true)
+returns-then-part-i c f = rw (le-leb _ _ c.if-part-i.true)
 
 pub returns : goal.returns
 unfolding big_endian pair_bytes
-returns c =
+returns c f =
     let a = c.args in
     let long : 4 ≤ length (drop (4 * a.i) a.part.now) = rw length-drop (omega arith) in
     let w : Whole (drop (4 * a.i) a.part.now) (pair_bytes f.fields) 4 = record { long = long; sized = refl; begins = f.begins } in

@@ -9,7 +9,7 @@ use Rattle.packet.proofs.Sums.{in_parts}
 use Rattle.packet.proofs.sum.Goals as goal
 
 pub slice_bounds-update-end : goal.slice_bounds-update-end
-slice_bounds-update-end c =  sym (length-take-le 8 c.args.raw.now (omega (arith, c.requires)))
+slice_bounds-update-end c = sym (length-take-le 8 c.args.raw.now (omega (arith, c.requires)))
 
 pub returns : goal.returns
 unfolding little_endian

@@ -13,14 +13,14 @@ use Rattle.packet.proofs.unmarshal.Goals as goal
 
 pub returns-then-raw-lt12 : goal.returns-then-raw-lt12
 unfolding common_read
-returns-then-raw-lt12 c = rw (lt-ltb _ 12 c.if-raw-lt12.true)
+returns-then-raw-lt12 c f = rw (lt-ltb _ 12 c.if-raw-lt12.true)
 
 pub returns-then-stands-right : goal.returns-then-stands-right
-returns-then-stands-right c = sum_wrong f c.if-raw-lt12.false (search rules) (search rules) (search rules) c.sum.ensures c.swapped-right.ensures c.get_u32-stands.ensures c.if-stands-right.true
+returns-then-stands-right c f = sum_wrong f c.if-raw-lt12.false (search rules) (search rules) (search rules) c.sum.ensures c.swapped-right.ensures c.get_u32-stands.ensures c.if-stands-right.true
 
 pub returns : goal.returns
 unfolding big_endian common_bytes little_endian
-returns c =
+returns c f =
     let long = c.if-raw-lt12.false in
     let whole = common-whole f long in
     let source = field whole 0 2 (omega arith) f.fits.common.source (search rules) refl c.get_u16-source_port.ensures in

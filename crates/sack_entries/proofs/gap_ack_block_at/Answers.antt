@@ -12,11 +12,11 @@ use Rattle.sack_entries.specs.Layout.{block_bytes}
 use Rattle.sack_entries.proofs.gap_ack_block_at.Goals as goal
 
 pub returns-then-part-i : goal.returns-then-part-i
-returns-then-part-i c = rw (le-leb _ _ c.if-part-i.true)
+returns-then-part-i c f = rw (le-leb _ _ c.if-part-i.true)
 
 pub returns : goal.returns
 unfolding big_endian block_bytes
-returns c =
+returns c f =
     let a = c.args in
     let long : 4 ≤ length (drop (4 * a.i) a.part.now) = rw length-drop (omega arith) in
     let w : Whole (drop (4 * a.i) a.part.now) (block_bytes f.fields) 4 = record { long = long; sized = refl; begins = f.begins } in

@@ -12,7 +12,7 @@ use Rattle.sack_fields.proofs.fields.Goals as goal
 
 pub returns : goal.returns
 unfolding big_endian header_bytes sack_held sack_value
-returns c =
+returns c f =
     let w = headed_whole sack_value SackFits 12 f refl c.requires in
     let d = f.fits.fields in
     rw (

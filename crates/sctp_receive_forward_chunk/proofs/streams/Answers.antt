@@ -13,7 +13,7 @@ use Rattle.sctp_receive_forward_chunk.proofs.streams.Goals as goal
 
 pub returns-in-Fields : goal.returns-in-Fields
 unfolding forward_read pairs_span
-returns-in-Fields c =
+returns-in-Fields c f =
     let r = c.unmarshal-answer in
     let raw = c.args.raw.now in
     let h = f.fields.header in
@@ -26,7 +26,7 @@ returns-in-Fields c =
 
 pub returns-in-Refused : goal.returns-in-Refused
 unfolding forward_read pairs_span
-returns-in-Refused c =
+returns-in-Refused c f =
     let r = c.unmarshal-answer in
     let h = f.fields.header in
     let checks = first (forward_checks (length c.args.raw.now) h) in

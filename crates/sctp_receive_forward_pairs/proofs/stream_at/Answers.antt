@@ -4,7 +4,7 @@ use Rattle.sctp_receive_result.proofs.Codes.{back_refuse}
 use Rattle.sctp_receive_forward_pairs.proofs.stream_at.Goals as goal
 
 pub returns-in-Stream : goal.returns-in-Stream
-returns-in-Stream c = rw (← (c.stream_at-answer.ensures f), c.in-Stream.is)
+returns-in-Stream c f = rw (← (c.stream_at-answer.ensures f), c.in-Stream.is)
 
 pub returns-in-Refused : goal.returns-in-Refused
-returns-in-Refused c = rw (← (c.stream_at-answer.ensures f), c.in-Refused.is, back_refuse c.in-Refused.k (omega arith))
+returns-in-Refused c f = rw (← (c.stream_at-answer.ensures f), c.in-Refused.is, back_refuse c.in-Refused.k (omega arith))
