@@ -1,9 +1,6 @@
 -- `loose_fragments::run_down` meets its contract: after i turns the sum and the run from the wanted TSN down make up the whole run.
 use mathlib.Core.Path.{refl}
-<<<<<<< HEAD
 use Prim.Native.Nat.{◌-◌}
-=======
->>>>>>> aaa9ef27bb3020e0beea9c89a5140c51f40be501
 use native.Mathlib.Omega.{arith}
 use borrow.Author.Tests.{eq-eqb, ne_eqb}
 use Rattle.loose_fragments.specs.Loose.{previous}
