@@ -1,5 +1,6 @@
 // Passes over the ordered rows that a skip held over a stream reset asks for: `from` and n are those of the ordered rows.
 #![tactic(auto)]
+
 ghost use Rattle.std.specs.Prelude.{◌≡◌, cond, map, ◌+◌, ◌*◌, ◌≤◌, ◌<◌, length, take, drop};
 ghost use Rattle.serial_model.specs.Serial.{before};
 ghost use Rattle.table.specs.Rows.{rows_of};

@@ -1,5 +1,6 @@
 // What all chunks share: the header, and what readers and writers answer.
 #![tactic(auto)]
+
 pub mod chunk_header;
 
 // What a part call hands out where nothing is refused.

@@ -1,5 +1,6 @@
 // The message in hand: its bytes stand at the front of a lent buffer, and a record says how many they are and how far a piece reader has come.
 #![tactic(auto)]
+
 ghost use Rattle.std.specs.Prelude.{◌≡◌};
 ghost use Rattle.wire_model.specs.Refusal.{written};
 ghost use Rattle.chunks.specs.Message.{number_told, flag_told, piece_told, unsound, size, is_empty, whole_read, after, next_piece};

@@ -1,5 +1,6 @@
 // Four numbers that count records by their kind, and stay at the highest value once there: handed in and out by value, or lent and altered where they lie.
 #![tactic(auto)]
+
 ghost use Rattle.std.specs.Prelude.{◌≡◌};
 ghost use Rattle.counters.specs.Counted.{one_more, fresh, counted_as};
 

@@ -1,5 +1,6 @@
 // CRC32c of lent bytes (RFC 4960, Appendix B), by a table of 256 words.
 #![tactic(auto)]
+
 ghost use Rattle.std.specs.Prelude.{◌≡◌};
 ghost use Rattle.crc32c_table.specs.Crc.{through, crc32c};
 

@@ -1,5 +1,6 @@
 // Registers that go through bytes: one alone, and several side by side that are then made one.
 #![tactic(auto)]
+
 ghost use Rattle.std.specs.Prelude.{◌≡◌, ◌*◌, ◌<◌, ◌≤◌, length};
 ghost use Rattle.crc32c_table.specs.Crc.{bit_step, byte_step, through};
 ghost use Rattle.crc32c_table.specs.Table.{Rule};

@@ -1,5 +1,6 @@
 // The table of CRC32c, for eight bits at a time.
 #![tactic(auto)]
+
 ghost use Rattle.crc32c_table.specs.Table.{Rule};
 
 const TABLE: [u32; 256] = [

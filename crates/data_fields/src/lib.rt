@@ -1,6 +1,7 @@
 // The fields of a DATA chunk (RFC 4960 section 3.3.1) before its user data, and its flags byte: what the queues hold of a chunk. Reading and writing the chunk
 // is crate `chunk_payload_data`.
 #![tactic(auto)]
+
 ghost use Rattle.std.specs.Prelude.{◌≡◌, ◌≤◌};
 ghost use Rattle.data_fields.specs.Fields.{data_flags, weighed};
 

@@ -1,5 +1,6 @@
 // Fragments taken out from among those held: what stands behind them moves down.
 #![tactic(auto)]
+
 ghost use Rattle.std.specs.Prelude.{◌≡◌, ◌+◌, ◌*◌, ◌≤◌, length, take, drop};
 ghost use Rattle.moves_model.specs.Lists.{gone};
 ghost use Rattle.table.specs.Rows.{rows_of, total};

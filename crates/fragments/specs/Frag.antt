@@ -1,6 +1,6 @@
 -- A fragment: the header fields and the user data of a DATA chunk that is held, and what it says.
 -- Assumes nothing.
-use Rattle.std.specs.Prelude.{ℕ, ◌+◌, ◌*◌, ◌/◌, ◌%◌, Bool, List, [], ◌∷◌, ◌++◌, eqb, length, take, drop, replicate}
+use Rattle.std.specs.Prelude.{ℕ, ◌+◌, ◌*◌, ◌/◌, ◌%◌, Bool, List, eqb, length, replicate}
 use Rattle.serial_model.specs.Serial.{before}
 use Rattle.table.specs.Rows.{row}
 use Rattle.table.specs.declared.Row.{Row}

@@ -1,6 +1,7 @@
 // Fragments: records of a lent table, and their bytes in a lent pool. The payload of record i stands right after that of record i-1, so no
 // places are stored: no two can share a byte, and freed room is usable at once.
 #![tactic(auto)]
+
 ghost use Rattle.std.specs.Prelude.{◌≡◌, ◌+◌, ◌-◌, ◌*◌, ◌≤◌, length, take, drop};
 ghost use Rattle.wire_model.specs.BigEndian.{over};
 ghost use Rattle.moves_model.specs.Lists.{gone, turned};

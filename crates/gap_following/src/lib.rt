@@ -1,5 +1,6 @@
 // The TSNs that follow one another from a row on, counted.
 #![tactic(auto)]
+
 ghost use Rattle.std.specs.Prelude.{◌≡◌, cond, ◌*◌, ◌≤◌, ltb, length, take, drop};
 ghost use Rattle.table.specs.Rows.{rows_of};
 ghost use Rattle.gap_model.specs.Adjacent.{adjacent};

@@ -1,5 +1,6 @@
 // The first bytes of a buffer, copied to the front of another.
 #![tactic(auto)]
+
 ghost use Rattle.std.specs.Prelude.{◌≡◌, ◌≤◌, ltb, length, take};
 ghost use Rattle.wire_model.specs.BigEndian.{over};
 

@@ -1,5 +1,6 @@
 // Where a piece reader stands in a message: its size, the place of the next piece, and whether an empty message's one piece was given.
 #![tactic(auto)]
+
 ghost use Rattle.std.specs.Prelude.{◌≡◌, not, ◌||◌, ◌&&◌, ◌≤◌, min, ltb, eqb};
 ghost use Rattle.hand_place.specs.Place.{onward};
 

@@ -1,5 +1,6 @@
 // The counts that an in-flight queue starts from.
 #![tactic(auto)]
+
 ghost use Rattle.std.specs.Prelude.{◌≡◌};
 ghost use Rattle.inflight_model.specs.Queue.{fresh};
 

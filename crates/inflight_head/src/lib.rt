@@ -1,5 +1,6 @@
 // Marks on a held record, in its head: acknowledged, to be sent again, abandoned.
 #![tactic(auto)]
+
 ghost use Rattle.std.specs.Prelude.{◌≡◌, cond};
 ghost use Rattle.inflight_model.specs.Queue.{acked_head, abandoned_head, again_head};
 

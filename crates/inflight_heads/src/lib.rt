@@ -1,6 +1,7 @@
 // Marks on held records: to be sent again, abandoned. They stand in the column of heads alone, so that a pass over all records is
 // vector code.
 #![tactic(auto)]
+
 ghost use Rattle.std.specs.Prelude.{◌≡◌, map, ◌*◌, ◌≤◌, length, take};
 ghost use Rattle.wire_model.specs.BigEndian.{over};
 ghost use Rattle.table.specs.Rows.{rows_of};

@@ -1,6 +1,7 @@
 // The state of the sender's in-flight queue and every call's answer. What the calls do with them is defined in specs/, and theorems over whole
 // runs of calls stand in proofs/. The calls of crate `inflight_queue` take and give the same counts.
 #![tactic(auto)]
+
 use payload_model::{Done, Number, Queued};
 
 // The counts of a queue; the records stand in the lent table, and beside them, in a lent list, the number of each one's message.

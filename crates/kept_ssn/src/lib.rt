@@ -1,5 +1,6 @@
 // Of the SSNs passed so far the one to keep: the lowest, or the highest.
 #![tactic(auto)]
+
 ghost use Rattle.std.specs.Prelude.{◌≡◌, cond};
 ghost use Rattle.serial_model.specs.Serial.{before};
 

@@ -1,5 +1,6 @@
 // Passes over the records of loose unordered fragments: `from` and n are a segment of the table's rows.
 #![tactic(auto)]
+
 ghost use Rattle.std.specs.Prelude.{◌≡◌, map, ◌+◌, ◌*◌, ◌/◌, ◌%◌, ◌≤◌, ◌<◌, eqb, length, take, drop};
 ghost use Rattle.table.specs.Rows.{rows_of, ahead_of};
 ghost use Rattle.fragments.specs.Frag.{bare, of_row, tsn_after};

@@ -1,5 +1,6 @@
 // A TSN that comes: whether it can be pushed.
 #![tactic(auto)]
+
 ghost use Rattle.std.specs.Prelude.{◌≡◌};
 ghost use Rattle.payload_model.specs.Queue.{queue_of, can_push};
 ghost use Rattle.payload_model.specs.Answers.{flag_told};

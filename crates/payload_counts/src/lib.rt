@@ -1,5 +1,6 @@
 // The test of a TSN queue's counts, which every call of it starts with, and the calls that only tell a count.
 #![tactic(auto)]
+
 ghost use Rattle.std.specs.Prelude.{◌≡◌, ◌*◌, length};
 ghost use Rattle.payload_model.specs.Limits.{tsns_most};
 ghost use Rattle.payload_model.specs.Queue.{queue_of, unsound, counted, is_empty, num_bytes};

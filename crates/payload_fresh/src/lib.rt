@@ -1,5 +1,6 @@
 // The counts that a TSN queue starts from.
 #![tactic(auto)]
+
 ghost use Rattle.std.specs.Prelude.{◌≡◌};
 ghost use Rattle.payload_model.specs.Queue.{fresh};
 

@@ -1,5 +1,6 @@
 // What is held: the last TSN, and whether a chunk of a stream is. These calls change nothing.
 #![tactic(auto)]
+
 ghost use Rattle.std.specs.Prelude.{◌≡◌};
 ghost use Rattle.payload_model.specs.Queue.{queue_of, contains_stream, last_tsn};
 ghost use Rattle.payload_model.specs.Answers.{flag_told, last_told};

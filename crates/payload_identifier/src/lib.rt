@@ -1,5 +1,6 @@
 // The names of payload identifiers (RFC 8831, section 8).
 #![tactic(auto)]
+
 ghost use Rattle.std.specs.Prelude.{◌≡◌};
 ghost use Rattle.payload_identifier.specs.Identifier.{identifier_number, identifier_name};
 

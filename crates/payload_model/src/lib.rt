@@ -1,6 +1,7 @@
 // The state of the TSN queue and every call's answer. What the calls do with them is defined in specs/, and theorems over whole runs of calls
 // stand in proofs/. The calls of crate `payload_queue` take and give the same counts.
 #![tactic(auto)]
+
 use data_fields::ChunkPayloadData;
 
 // The sizes, stated once. `specs/Limits.antt` states them once for the proofs.

@@ -1,5 +1,6 @@
 // A chunk's record, and a record's chunk.
 #![tactic(auto)]
+
 ghost use Rattle.std.specs.Prelude.{◌≡◌};
 ghost use Rattle.payload_model.specs.Queue.{row_of, chunk_of};
 ghost use Rattle.payload_model.specs.Answers.{queued_found};

@@ -1,5 +1,6 @@
 // A file of captured chunks: a version byte at its front, and then records, each the length of a chunk and the chunk.
 #![tactic(auto)]
+
 ghost use Rattle.std.specs.Prelude.{◌≡◌};
 ghost use Rattle.replay_file.specs.File.{versioned, start, record_told, records_most};
 

@@ -1,5 +1,6 @@
 // How a number stands to another, as a number for C.
 #![tactic(auto)]
+
 ghost use Rattle.std.specs.Prelude.{◌≡◌};
 ghost use Rattle.serial_model.specs.Serial.{order_number};
 

@@ -1,5 +1,6 @@
 // What the C call is made of that walks over a packet's chunks. Out values are 0 and false beside a refusal.
 #![tactic(auto)]
+
 ghost use Rattle.std.specs.Prelude.{◌≡◌};
 ghost use Rattle.sctp_receive_result.specs.Result.{told, back};
 ghost use Rattle.sctp_receive_packet_chunks.specs.Stops.{stop, stop_at};

@@ -1,6 +1,7 @@
 // Numbers that wrap: TSNs of 32 bits, SSNs of 16. Each call stands in a crate of its kind, and is handed on here; what they answer is stated once over the
 // width, in serial_model/specs/Serial.antt.
 #![tactic(auto)]
+
 pub use serial_compare::{ssn_compare, tsn_compare};
 pub use serial_distance::{ssn_distance, tsn_distance};
 pub use serial_model::Order;

@@ -1,5 +1,6 @@
 // How a number that wraps stands to another: one comparison with four answers.
 #![tactic(auto)]
+
 ghost use Rattle.std.specs.Prelude.{◌≡◌};
 ghost use Rattle.serial_model.specs.Serial.{compared};
 

@@ -1,5 +1,6 @@
 // The signed distance between numbers that wrap.
 #![tactic(auto)]
+
 ghost use Rattle.std.specs.Prelude.{◌≡◌};
 ghost use Rattle.serial_model.specs.Serial.{distance};
 

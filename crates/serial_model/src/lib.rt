@@ -1,5 +1,6 @@
 // Numbers that wrap: TSNs of 32 bits, SSNs of 16. What each call of `serial` answers is stated once over the width, in specs/Serial.antt.
 #![tactic(auto)]
+
 ghost use Rattle.std.specs.Prelude.{◌≡◌};
 ghost use Rattle.serial_model.specs.Compared.{is_before};
 

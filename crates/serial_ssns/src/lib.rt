@@ -1,5 +1,6 @@
 // The order of SSNs: each yes or no reads the answer of one comparison.
 #![tactic(auto)]
+
 ghost use Rattle.std.specs.Prelude.{◌≡◌};
 ghost use Rattle.serial_model.specs.Serial.{before, at_or_before};
 

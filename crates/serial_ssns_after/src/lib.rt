@@ -1,5 +1,6 @@
 // The order of SSNs, asked from the other side: after, at or after, and the same.
 #![tactic(auto)]
+
 ghost use Rattle.std.specs.Prelude.{◌≡◌, eqb};
 ghost use Rattle.serial_model.specs.Serial.{after, at_or_after};
 

@@ -1,5 +1,6 @@
 // The steps between numbers that wrap: the next one, and how many there are from one to another.
 #![tactic(auto)]
+
 ghost use Rattle.std.specs.Prelude.{◌≡◌};
 ghost use Rattle.serial_model.specs.Serial.{next, ahead};
 

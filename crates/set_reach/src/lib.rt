@@ -1,5 +1,6 @@
 // Passes over the records of ordered sets, for skips: `from` and n are a segment of the table's rows.
 #![tactic(auto)]
+
 ghost use Rattle.std.specs.Prelude.{◌≡◌, map, ◌+◌, ◌*◌, ◌≤◌, ◌<◌, length, get_or, take, drop};
 ghost use Rattle.table.specs.Rows.{blank, rows_of, ahead_of};
 ghost use Rattle.fragments.specs.Frag.{bare, of_row, ssn_of};

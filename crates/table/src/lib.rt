@@ -1,6 +1,7 @@
 // Rows of a lent table of words, column after column: heads, TSNs, ids, payload identifiers, `size` words each.
 // Column by column, because the passes over all TSNs and all lengths that every call needs are then vector code.
 #![tactic(auto)]
+
 ghost use Rattle.std.specs.Prelude.{◌≡◌, ◌+◌, ◌*◌, ◌<◌, length, get_or};
 ghost use Rattle.table.specs.Rows.{blank, rows_of};
 

@@ -1,5 +1,6 @@
 // Searches of a table's rows, for a TSN and for a stream. Each passes over the n rows from one on.
 #![tactic(auto)]
+
 ghost use Rattle.std.specs.Prelude.{◌≡◌, ◌+◌, ◌*◌, ◌≤◌, length, take, drop};
 ghost use Rattle.table.specs.Rows.{rows_of, some, ahead_of, has_tsn, has_stream};
 

@@ -1,5 +1,6 @@
 // Big-endian fields in lent slices: read at a place.
 #![tactic(auto)]
+
 ghost use Rattle.std.specs.Prelude.{◌≡◌, ◌+◌, ◌≤◌, ◌<◌, length, take, drop};
 ghost use Rattle.wire_model.specs.BigEndian.{big_endian};
 

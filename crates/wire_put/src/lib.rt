@@ -1,5 +1,6 @@
 // Big-endian fields, and bytes, written at the front of a lent slice.
 #![tactic(auto)]
+
 ghost use Rattle.std.specs.Prelude.{◌≡◌, ◌≤◌, length};
 ghost use Rattle.wire_model.specs.BigEndian.{big_endian, over};
 

@@ -9,12 +9,12 @@ use Rattle.fragment_close.proofs.close_fragments.Goals as goal
 pub returns-then-at-k : goal.returns-then-at-k
 returns-then-at-k c =
     let a = c.args in
-    let p = c.requires.1.1.1 in
+    let p = c.requires in
     let rows = rows_of a.size a.table.now in
     let e = rows_long a.size a.table.now c.requires.table_len in
     record {
-      table_after = gone-last-rows a.n rows a.pool.now a.held p.0 p.1.0 a.at a.k c.if-at-k.true (omega arith);
-      pool_after = gone-last-bytes a.n rows a.pool.now a.held p.0 p.1.0 a.at a.k c.if-at-k.true;
+      table_after = gone-last-rows a.n rows a.pool.now a.held p.table_value p.held_in_bounds a.at a.k c.if-at-k.true (omega arith);
+      pool_after = gone-last-bytes a.n rows a.pool.now a.held p.table_value p.held_in_bounds a.at a.k c.if-at-k.true;
     }
 
 pub close_bytes-requires : goal.close_bytes-requires
@@ -30,10 +30,10 @@ close_bytes-requires c =
 pub returns : goal.returns
 returns c =
     let a = c.args in
-    let p = c.requires.1.1.1 in
+    let p = c.requires in
     let rows = rows_of a.size a.table.now in
     let pool = a.pool.now in
     record {
-      table_after = rw c.close_rows.ensures (gone-rows a.n rows pool a.held p.0 p.1.0 a.at a.k);
-      pool_after = rw (c.close_bytes.ensures, p.1.1.0, p.1.1.1) (gone-bytes a.n rows pool a.held p.0 p.1.0 a.at a.k (omega arith));
+      table_after = rw c.close_rows.ensures (gone-rows a.n rows pool a.held p.table_value p.held_in_bounds a.at a.k);
+      pool_after = rw (c.close_bytes.ensures, p.off_value, p.bytes_value) (gone-bytes a.n rows pool a.held p.table_value p.held_in_bounds a.at a.k (omega arith));
     }

@@ -2,10 +2,8 @@
 use Rattle.fragment_close.proofs.remove_fragments.Goals as goal
 
 pub returns : goal.returns
-returns c =
-    let whole = (c.sum_long-bytes.ensures, c.close_fragments.ensures) in
-    record {
-      value = whole.0;
-      table_after = whole.1.0;
-      pool_after = whole.1.1;
-    }
+returns c = record {
+  value = c.sum_long-bytes.ensures;
+  table_after = c.close_fragments.ensures.table_after;
+  pool_after = c.close_fragments.ensures.pool_after;
+}

@@ -11,18 +11,18 @@ put_bytes-requires c =
     let a = c.args in
     let front = total-take a.at a.n (rows_of a.size a.table.now) (omega arith) in
     record {
-      off_le_total = omega (arith, c.before.start_of_lem.ensures);
+      off_le_total = omega (arith, c.start_of-off.ensures);
       src_in_bounds = omega arith;
     }
 
 pub returns : goal.returns
 returns c =
     let a = c.args in
-    let p = c.requires.1.1.1.1 in
+    let p = c.requires in
     let rows = rows_of a.size a.table.now in
     let pool = a.pool.now in
     let small : a.held ≤ length pool = omega arith in
     record {
-      table_after = rw c.put_row.ensures (put-rows a.n rows pool a.held p.0 small a.at a.row a.bytes.now p.1.1);
-      pool_after = rw (c.put_bytes.ensures, c.start_of_lem.ensures) (put-bytes a.n rows pool a.held p.0 small a.at a.row a.bytes.now (omega arith));
+      table_after = rw c.put_row.ensures (put-rows a.n rows pool a.held p.table_value small a.at a.row a.bytes.now p.head_value);
+      pool_after = rw (c.put_bytes.ensures, c.start_of-off.ensures) (put-bytes a.n rows pool a.held p.table_value small a.at a.row a.bytes.now (omega arith));
     }

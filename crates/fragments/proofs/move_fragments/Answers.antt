@@ -30,22 +30,22 @@ returns-then-a-b c =
 pub overflow_add-middle : goal.overflow_add-middle
 overflow_add-middle c =
     let a = c.args in
-    let p = c.requires.1.1.1 in
-    let w = within (rows_of a.size a.table.now) a.a a.b a.e a.n p.0 p.1.0 p.1.1.0 in
+    let p = c.requires in
+    let w = within (rows_of a.size a.table.now) a.a a.b a.e a.n p.a_le_b p.b_le_e p.e_le_n in
     omega (arith, c.sum_long-first.ensures, c.sum_long.ensures)
 
 pub overflow_add-end : goal.overflow_add-end
 overflow_add-end c =
     let a = c.args in
-    let p = c.requires.1.1.1 in
-    let w = within (rows_of a.size a.table.now) a.a a.b a.e a.n p.0 p.1.0 p.1.1.0 in
+    let p = c.requires in
+    let w = within (rows_of a.size a.table.now) a.a a.b a.e a.n p.a_le_b p.b_le_e p.e_le_n in
     omega (arith, c.sum_long-first.ensures, c.sum_long.ensures, c.sum_long-2.ensures)
 
 pub turn_bytes-requires : goal.turn_bytes-requires
 turn_bytes-requires c =
     let a = c.args in
-    let p = c.requires.1.1.1 in
-    let w = within (rows_of a.size a.table.now) a.a a.b a.e a.n p.0 p.1.0 p.1.1.0 in
+    let p = c.requires in
+    let w = within (rows_of a.size a.table.now) a.a a.b a.e a.n p.a_le_b p.b_le_e p.e_le_n in
     omega (arith, c.sum_long-first.ensures, c.sum_long.ensures, c.sum_long-2.ensures)
 
 pub returns : goal.returns
@@ -53,11 +53,11 @@ returns c =
     let a = c.args in
     let rows = rows_of a.size a.table.now in
     let pool = a.pool.now in
-    let p = c.requires.1.1.1 in
-    let fit = p.1.1.1 in
+    let p = c.requires in
+    let fit = p.table_in_bounds in
     let long = rows_long a.size a.table.now c.requires.table_len in
     record {
-      table_after = rw c.turn_rows.ensures (turned_rows a.n rows pool _ refl fit a.a a.b a.e p.0 p.1.0 p.1.1.0 (omega arith));
-      pool_after = rw (c.turn_bytes.ensures, c.sum_long-first.ensures, c.sum_long.ensures, c.sum_long-2.ensures, total_up a.a a.b rows p.0, total_up a.b a.e rows p.1.0)
-          (turned-bytes a.n rows pool _ refl fit a.a a.b a.e p.0 p.1.0 p.1.1.0);
+      table_after = rw c.turn_rows.ensures (turned_rows a.n rows pool _ refl fit a.a a.b a.e p.a_le_b p.b_le_e p.e_le_n (omega arith));
+      pool_after = rw (c.turn_bytes.ensures, c.sum_long-first.ensures, c.sum_long.ensures, c.sum_long-2.ensures, total_up a.a a.b rows p.a_le_b, total_up a.b a.e rows p.b_le_e)
+          (turned-bytes a.n rows pool _ refl fit a.a a.b a.e p.a_le_b p.b_le_e p.e_le_n);
     }

@@ -1,6 +1,6 @@
 -- `fragments::sum_long` meets its contract: after i turns the sum is that of the first i rows.
 use mathlib.Core.Path.{◌≡◌, refl}
-use Prim.Native.Nat.{◌+◌, ◌-◌}
+use Prim.Native.Nat.{◌+◌}
 use native.Mathlib.Omega.{arith}
 use Rattle.table.specs.Rows.{rows_of, total}
 use Rattle.table.proofs.Columns.{rows_long}
@@ -22,4 +22,4 @@ loop-i-preserved c =
     (omega arith, omega arith, rw (rows_more (rows_of n ws) a.from i (omega arith), total-snoc, ← c.loop-i.invariant.2, ← (head_at n ws long (a.from + i) (omega arith) refl), ← c.long_length-sum.ensures))
 
 pub returns : goal.returns
-returns c =  let e : c.loop-i.i ≡ c.args.n = omega arith in rw e at c.loop-i.invariant.2
+returns c = let e : c.loop-i.i ≡ c.args.n = omega arith in rw e at c.loop-i.invariant.2

@@ -20,4 +20,4 @@ loop-i-preserved c =
     (refl, i.1, i.2, rw c.tsn_next-want.ensures (followed_turn i.3 (omega arith) (omega arith) c.if-table-tsns.false))
 
 pub returns : goal.returns
-returns c =  followed_all c.loop-i.invariant.3 _ c.loop-i.invariant.1 c.loop-i-test.false
+returns c = followed_all c.loop-i.invariant.3 _ c.loop-i.invariant.1 c.loop-i-test.false

@@ -18,8 +18,9 @@ write_blocks-count-requires c =
 pub returns-then-n-ends : goal.returns-then-n-ends
 returns-then-n-ends c =
     let a = c.args in
+    let w = c.write_blocks-count.ensures in
     let f = held_few a.size a.n a.table.now c.requires.table_len c.requires.n_le_size a.cumulative in
-    said (blocks a.cumulative (held a.size a.n a.table.now)) a.starts.now a.ends.now (omega arith) (omega arith) c.write_blocks-count.ensures
+    said (blocks a.cumulative (held a.size a.n a.table.now)) a.starts.now a.ends.now (omega arith) (omega arith) (w.value, (w.starts_after, w.ends_after))
 
 pub returns-then-needed-starts : goal.returns-then-needed-starts
 returns-then-needed-starts c =
@@ -34,4 +35,5 @@ returns-then-needed-ends c =
 pub returns : goal.returns
 returns c =
     let a = c.args in
-    said (blocks a.cumulative (held a.size a.n a.table.now)) a.starts.now a.ends.now (omega arith) (omega arith) c.write_blocks-count-2.ensures
+    let w = c.write_blocks-count-2.ensures in
+    said (blocks a.cumulative (held a.size a.n a.table.now)) a.starts.now a.ends.now (omega arith) (omega arith) (w.value, (w.starts_after, w.ends_after))

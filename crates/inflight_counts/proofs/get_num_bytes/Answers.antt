@@ -6,10 +6,10 @@ use Rattle.inflight_counts.proofs.get_num_bytes.Goals as goal
 
 pub returns-then-unsound : goal.returns-then-unsound
 unfolding num_bytes
-returns-then-unsound c = rw (sym (c.unsound.ensures ms) ∙ c.if-unsound.true)
+returns-then-unsound c ms = rw (sym (c.unsound.ensures ms) ∙ c.if-unsound.true)
 
 pub returns : goal.returns
 unfolding num_bytes
-returns c =
+returns c ms =
     let e = sym (c.unsound.ensures ms) ∙ c.if-unsound.false in
     rw (e, (laws.sound _ e).sum)

@@ -5,8 +5,8 @@ use Rattle.inflight_counts.proofs.is_empty.Goals as goal
 
 pub returns-then-unsound : goal.returns-then-unsound
 unfolding is_empty
-returns-then-unsound c = rw (sym (c.unsound.ensures ms) ∙ c.if-unsound.true)
+returns-then-unsound c ms = rw (sym (c.unsound.ensures ms) ∙ c.if-unsound.true)
 
 pub returns : goal.returns
 unfolding is_empty
-returns c =  rw (sym (c.unsound.ensures ms) ∙ c.if-unsound.false)
+returns c ms =  rw (sym (c.unsound.ensures ms) ∙ c.if-unsound.false)

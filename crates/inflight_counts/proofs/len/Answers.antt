@@ -5,8 +5,8 @@ use Rattle.inflight_counts.proofs.len.Goals as goal
 
 pub returns-then-unsound : goal.returns-then-unsound
 unfolding counted
-returns-then-unsound c = rw (sym (c.unsound.ensures ms) ∙ c.if-unsound.true)
+returns-then-unsound c ms = rw (sym (c.unsound.ensures ms) ∙ c.if-unsound.true)
 
 pub returns : goal.returns
 unfolding counted
-returns c = rw (sym (c.unsound.ensures ms) ∙ c.if-unsound.false)
+returns c ms = rw (sym (c.unsound.ensures ms) ∙ c.if-unsound.false)

@@ -5,8 +5,8 @@ use Rattle.inflight_counts.proofs.unsound.Goals as goal
 
 pub returns-then-count-gt-TSNS : goal.returns-then-count-gt-TSNS
 unfolding unsound
-returns-then-count-gt-TSNS c = rw (lt-ltb _ _ c.if-count-gt-TSNS.true)
+returns-then-count-gt-TSNS c ms = rw (lt-ltb _ _ c.if-count-gt-TSNS.true)
 
 pub returns : goal.returns
 unfolding unsound
-returns c = rw (le-ltb _ _ c.if-count-gt-TSNS.false, c.sum_short-sum.ensures)
+returns c ms = rw (le-ltb _ _ c.if-count-gt-TSNS.false, c.sum_short-sum.ensures)

@@ -11,7 +11,7 @@ use Rattle.inflight_marks.proofs.mark_all_to_retransmit.Goals as goal
 
 pub returns-then-unsound : goal.returns-then-unsound
 unfolding marked_all
-returns-then-unsound c = rw (sym (c.unsound.ensures ms) ∙ c.if-unsound.true)
+returns-then-unsound c ms = rw (sym (c.unsound.ensures ms) ∙ c.if-unsound.true)
 
 pub mark_again-requires : goal.mark_again-requires
 mark_again-requires c =
@@ -21,4 +21,4 @@ mark_again-requires c =
     }
 
 pub returns : goal.returns
-returns c = again-all (queue_of c.args.counts c.args.table.now ms) (sym (c.unsound.ensures ms) ∙ c.if-unsound.false) (rows_long tsns_most c.args.table.now (omega arith)) c.mark_again.ensures
+returns c ms = again-all (queue_of c.args.counts c.args.table.now ms) (sym (c.unsound.ensures ms) ∙ c.if-unsound.false) (rows_long tsns_most c.args.table.now (omega arith)) c.mark_again.ensures

@@ -15,7 +15,7 @@ use Rattle.inflight_marks.proofs.mark_as_acked.Goals as goal
 
 pub returns-then-unsound : goal.returns-then-unsound
 unfolding marked_acked
-returns-then-unsound c = rw (sym (c.unsound.ensures ms) ∙ c.if-unsound.true)
+returns-then-unsound c ms = rw (sym (c.unsound.ensures ms) ∙ c.if-unsound.true)
 
 pub find_tsn-at-requires : goal.find_tsn-at-requires
 find_tsn-at-requires c =
@@ -28,7 +28,7 @@ find_tsn-at-requires c =
     }
 
 pub returns-then-count-at : goal.returns-then-count-at
-returns-then-count-at c =
+returns-then-count-at c ms =
     let of : List ℕ → Queue = λ ms. queue_of c.args.counts c.args.table.now ms in
     let is_sound : (ms : List ℕ) → unsound (of ms) ≡ false = λ ms. sym (c.unsound.ensures ms) ∙ c.if-unsound.false in
     let long : (ms : List ℕ) → length (of ms).rows ≡ tsns_most = λ ms. rows_long tsns_most c.args.table.now (omega arith) in
@@ -64,7 +64,7 @@ overflow_sub-queue c =
     acked_small (of []) (is_sound []) (long []) c.args.tsn c.find_tsn-at.result c.find_tsn-at.ensures (omega (arith, c.if-count-at.false)) c.row_at-row.result c.row_at-row.ensures
 
 pub returns : goal.returns
-returns c =
+returns c ms =
     let of : List ℕ → Queue = λ ms. queue_of c.args.counts c.args.table.now ms in
     let is_sound : (ms : List ℕ) → unsound (of ms) ≡ false = λ ms. sym (c.unsound.ensures ms) ∙ c.if-unsound.false in
     let long : (ms : List ℕ) → length (of ms).rows ≡ tsns_most = λ ms. rows_long tsns_most c.args.table.now (omega arith) in

@@ -22,14 +22,14 @@ pub loop-i-preserved-then-not-sna32lte : goal.loop-i-preserved-then-not-sna32lte
 loop-i-preserved-then-not-sna32lte c =
     let a = c.args in
     let w = tsn-at tsns_most a.table.now c.requires.table_len c.loop-i.i (omega arith) {q = tsns_most + c.loop-i.i} (omega arith) in
-    let b : stays_after a.tsn (get_or (rows_of tsns_most a.table.now) c.loop-i.i blank) ≡ true = rw (← w) (sym (ap (λ b. not b) c.sna32lte.ensures) ∙ c.if-not-sna32lte.true) in
+    let b : stays_after a.tsn (get_or (rows_of tsns_most a.table.now) c.loop-i.i blank) ≡ true = rw (← w) (ap (λ b. not b) (sym c.sna32lte.ensures ∙ c.if-not-sna32lte.true)) in
     (simp length-set c.loop-i.invariant.0, beside_stays c.loop-i.invariant.1 (omega arith) b)
 
 pub loop-i-preserved : goal.loop-i-preserved
 loop-i-preserved c =
     let a = c.args in
     let w = tsn-at tsns_most a.table.now c.requires.table_len c.loop-i.i (omega arith) {q = tsns_most + c.loop-i.i} (omega arith) in
-    let b : stays_after a.tsn (get_or (rows_of tsns_most a.table.now) c.loop-i.i blank) ≡ false = rw (← w) (sym (ap (λ b. not b) c.sna32lte.ensures) ∙ c.if-not-sna32lte.false) in
+    let b : stays_after a.tsn (get_or (rows_of tsns_most a.table.now) c.loop-i.i blank) ≡ false = rw (← w) (ap (λ b. not b) (sym c.sna32lte.ensures ∙ c.if-not-sna32lte.false)) in
     (c.loop-i.invariant.0, beside_goes c.loop-i.invariant.1 (omega arith) b)
 
 pub returns : goal.returns

@@ -5,4 +5,4 @@ use Rattle.inflight_parts.proofs.sent_of.Goals as goal
 
 pub returns : goal.returns
 unfolding sent_given sent_of
-returns c = rw c.Chunk_of.ensures
+returns c = rw c.chunk_of-queued.ensures

@@ -1,8 +1,14 @@
 -- `loose_fragments::run_down` meets its contract: after i turns the sum and the run from the wanted TSN down make up the whole run.
-use Prim.Native.Nat.{◌-◌}
+use mathlib.Core.Bool.{Bool}
+use Prim.Native.Nat.{ℕ, ◌-◌, ◌/◌, ◌%◌}
+use lib.Dec.{eqb}
 use Rattle.loose_fragments.specs.Loose.{previous}
 use Rattle.loose_fragments.proofs.Run.{Run}
 use Rattle.loose_fragments.proofs.run_down.Given as goal
+
+-- the run ends with it
+abbrev pub last : ℕ → Bool
+last flags = eqb (flags / 2 % 2) 1
 
 abbrev pub invariant-loop-i : goal.invariant-loop-i
 invariant-loop-i l = Run previous last l.size l.table l.from l.n l.tsn l.i l.sum l.want

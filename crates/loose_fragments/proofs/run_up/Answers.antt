@@ -1,16 +1,12 @@
 -- `loose_fragments::run_up` meets its contract: after i turns the sum and the run from the wanted TSN on make up the whole run.
 use mathlib.Core.Path.{refl}
-use mathlib.Core.Bool.{Bool}
-use Prim.Native.Nat.{ℕ, ◌-◌, ◌%◌}
+use Prim.Native.Nat.{◌-◌}
 use native.Mathlib.Omega.{arith}
-use lib.Dec.{eqb}
 use borrow.Author.Tests.{eq-eqb, ne_eqb}
 use Rattle.serial_model.specs.Serial.{next}
 use Rattle.loose_fragments.proofs.Run.{run_none, run_missed, run-last, run_on, run-all}
+use Rattle.loose_fragments.proofs.run_up.Invariants.{last}
 use Rattle.loose_fragments.proofs.run_up.Goals as goal
-
-abbrev last : ℕ → Bool
-last flags = eqb (flags % 2) 1
 
 pub loop-i-init : goal.loop-i-init
 loop-i-init c =

@@ -10,7 +10,7 @@ unfolding can_push
 returns-then-unsound c = rw (sym c.unsound.ensures ∙ c.if-unsound.true)
 
 pub has_tsn-requires : goal.has_tsn-requires
-has_tsn-requires c =  let s = sound _ (sym c.unsound.ensures ∙ c.if-unsound.false) in omega (arith, s.few)
+has_tsn-requires c = let s = sound _ (sym c.unsound.ensures ∙ c.if-unsound.false) in omega (arith, s.few)
 
 pub returns-then-has_tsn : goal.returns-then-has_tsn
 unfolding can_push turned_away

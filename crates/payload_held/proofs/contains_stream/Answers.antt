@@ -10,8 +10,8 @@ unfolding contains_stream
 returns-then-unsound c = rw (sym c.unsound.ensures ∙ c.if-unsound.true)
 
 pub has_stream-requires : goal.has_stream-requires
-has_stream-requires c =  let s = sound _ (sym c.unsound.ensures ∙ c.if-unsound.false) in omega (arith, s.few)
+has_stream-requires c = let s = sound _ (sym c.unsound.ensures ∙ c.if-unsound.false) in omega (arith, s.few)
 
 pub returns : goal.returns
 unfolding contains_stream
-returns c =  rw (sym c.unsound.ensures ∙ c.if-unsound.false, c.has_stream.ensures)
+returns c = rw (sym c.unsound.ensures ∙ c.if-unsound.false, c.has_stream.ensures)

@@ -15,10 +15,10 @@ returns-then-unsound c = rw (sym c.unsound.ensures ∙ c.if-unsound.true)
 
 pub returns-then-count-eq0 : goal.returns-then-count-eq0
 unfolding last_tsn
-returns-then-count-eq0 c =  rw (sym c.unsound.ensures ∙ c.if-unsound.false, eq-eqb _ _ c.if-count-eq0.true)
+returns-then-count-eq0 c = rw (sym c.unsound.ensures ∙ c.if-unsound.false, eq-eqb _ _ c.if-count-eq0.true)
 
 pub row_at-row-requires : goal.row_at-row-requires
-row_at-row-requires c =  let s = sound _ (sym c.unsound.ensures ∙ c.if-unsound.false) in omega (arith, s.few)
+row_at-row-requires c = let s = sound _ (sym c.unsound.ensures ∙ c.if-unsound.false) in omega (arith, s.few)
 
 pub returns : goal.returns
 unfolding last_tsn

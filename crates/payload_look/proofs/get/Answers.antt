@@ -52,4 +52,4 @@ returns c =
     let in_held : ahead_of p (held of) < of.count = omega (arith, at, c.if-count-at.false) in
     let few : ahead_of p (held of) < length (held of) = omega (arith, held-long) in
     let one : some p (held of) ≡ true = some-ahead p (held of) ∙ lt-ltb _ _ few in
-    rw (sym c.unsound.ensures ∙ c.if-unsound.false, one, c.Chunk_of.ensures, c.row_at.ensures, at, get_or-take of.count of.rows (ahead_of p (held of)) blank in_held)
+    rw (sym c.unsound.ensures ∙ c.if-unsound.false, one, c.chunk_of.ensures, c.row_at.ensures, at, get_or-take of.count of.rows (ahead_of p (held of)) blank in_held)

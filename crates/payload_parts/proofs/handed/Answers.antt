@@ -11,7 +11,7 @@ unfolding over
 loop-i-init c = (omega arith, refl)
 
 pub loop-i-preserved : goal.loop-i-preserved
-loop-i-preserved c = (omega arith, rw c.loop-i.invariant.1 (hand_turn c.args.t1 c.loop-i.i (omega arith)))
+loop-i-preserved c = (omega arith, rw c.loop-i.invariant.1 (hand_turn c.args.log c.loop-i.i (omega arith)))
 
 pub returns : goal.returns
 returns c =  let e : c.loop-i.i ≡ c.args.n = omega arith in rw e at c.loop-i.invariant.1

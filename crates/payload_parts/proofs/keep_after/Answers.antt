@@ -18,13 +18,11 @@ loop-i-init c =
 
 pub loop-i-preserved-then-not-sna32lte : goal.loop-i-preserved-then-not-sna32lte
 loop-i-preserved-then-not-sna32lte c =
-    let e = ap (λ b. not b) c.sna32lte.ensures in
-    (omega arith, rw (← c.set_row.ensures) at (keep_stays c.loop-i.invariant.1 (omega arith) c.row_at-row.result c.row_at-row.ensures (sym e ∙ c.if-not-sna32lte.true)))
+    (omega arith, rw (← c.set_row.ensures) at (keep_stays c.loop-i.invariant.1 (omega arith) c.row_at-row.result c.row_at-row.ensures (ap (λ b. not b) (sym c.sna32lte.ensures ∙ c.if-not-sna32lte.true))))
 
 pub loop-i-preserved : goal.loop-i-preserved
 loop-i-preserved c =
-    let e = ap (λ b. not b) c.sna32lte.ensures in
-    (c.loop-i.invariant.0, keep_goes c.loop-i.invariant.1 (omega arith) c.row_at-row.result c.row_at-row.ensures (sym e ∙ c.if-not-sna32lte.false))
+    (c.loop-i.invariant.0, keep_goes c.loop-i.invariant.1 (omega arith) c.row_at-row.result c.row_at-row.ensures (ap (λ b. not b) (sym c.sna32lte.ensures ∙ c.if-not-sna32lte.false)))
 
 pub returns : goal.returns
 returns c =

@@ -5,8 +5,8 @@ use Rattle.payload_parts.proofs.logged.Goals as goal
 
 pub returns-then-at-ge-LOG : goal.returns-then-at-ge-LOG
 unfolding logged
-returns-then-at-ge-LOG c = rw (le-ltb _ _ c.if-at-ge-LOG.true)
+returns-then-at-ge-LOG c ws = rw (le-ltb _ _ c.if-at-ge-LOG.true)
 
 pub returns : goal.returns
 unfolding logged
-returns c = rw (lt-ltb _ _ c.if-at-ge-LOG.false)
+returns c ws = rw (lt-ltb _ _ c.if-at-ge-LOG.false)

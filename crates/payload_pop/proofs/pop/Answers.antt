@@ -63,7 +63,7 @@ returns c =
       is-first of ok long some-held p,
       eq-eqb _ _ (sym tsn ∙ c.if-row-tsn.false),
       first-held of ok long some-held,
-      c.Chunk_of.ensures,
+      c.chunk_of.ensures,
       c.row_at-row.ensures,
     )
     (ap (after (says none (chunk_of (get_or of.rows 0 blank)))) gone)

@@ -2,4 +2,4 @@
 use Rattle.payload_push.proofs.turned_away.Goals as goal
 
 pub returns : goal.returns
-returns c = rw (c.logged.ensures ws)
+returns c ws = rw (c.logged.ensures ws)

@@ -4,7 +4,6 @@ use mathlib.Core.List.{List, []}
 use Prim.Native.Nat.{ℕ, ◌+◌, ◌*◌, ◌<◌, ◌≤◌}
 use borrow.Author.Rules.{rules}
 use native.Mathlib.Omega.{arith}
-use borrow.Author.Tests.{not-true, not-false}
 use lib.ListN.{length}
 use Rattle.table.proofs.Columns.{rows_long}
 use Rattle.reassembly_state.specs.Limits.{frags_most}
@@ -137,7 +136,7 @@ returns-then-not-room c =
     let set : (pool : List ℕ) → (at ≡ set_at (of pool) c.args.chunk.stream_sequence_number) × (c.pass_ssn-run.result ≡ set_run (of pool) c.args.chunk.stream_sequence_number) = λ pool. set_found (of pool) few (full pool) c.args.chunk.stream_sequence_number c.find_ssn-ahead.ensures c.pass_ssn-run.ensures in
     λ pool u. told_so c.answered-then-not-room.ensures
     (asks_crowded (of pool) (sound (of pool) u) (full pool) c.args.chunk small c.args.more c.args.room (set pool).0 (set pool).1 (sym c.too_large.ensures ∙ c.if-too_large.false)
-    (sym c.sna16lt.ensures ∙ c.if-sna16lt.false) (sym c.has_tsn.ensures ∙ c.if-has_tsn.false) (not-true _ c.if-not-room.true))
+    (sym c.sna16lt.ensures ∙ c.if-sna16lt.false) (sym c.has_tsn.ensures ∙ c.if-has_tsn.false) c.if-not-room.true)
 
 pub returns : goal.returns
 returns c =
@@ -150,4 +149,4 @@ returns c =
     let set : (pool : List ℕ) → (at ≡ set_at (of pool) c.args.chunk.stream_sequence_number) × (c.pass_ssn-run.result ≡ set_run (of pool) c.args.chunk.stream_sequence_number) = λ pool. set_found (of pool) few (full pool) c.args.chunk.stream_sequence_number c.find_ssn-ahead.ensures c.pass_ssn-run.ensures in
     λ pool u. told_so c.answered-2.ensures
     (asks_kept (of pool) (sound (of pool) u) (full pool) c.args.chunk small c.args.more c.args.room (set pool).0 (set pool).1 (sym c.too_large.ensures ∙ c.if-too_large.false)
-    (sym c.sna16lt.ensures ∙ c.if-sna16lt.false) (sym c.has_tsn.ensures ∙ c.if-has_tsn.false) (not-false _ c.if-not-room.false))
+    (sym c.sna16lt.ensures ∙ c.if-sna16lt.false) (sym c.has_tsn.ensures ∙ c.if-has_tsn.false) c.if-not-room.false)

@@ -1,5 +1,6 @@
 -- `reassembly_drop::drop_sets` meets its contract: after each set those that stay of the passed ones stand at the front.
-use mathlib.Core.Path.{refl}
+use mathlib.Core.Path.{ap, refl}
+use mathlib.Core.Bool.{not}
 use Prim.Native.Nat.{◌+◌, ◌-◌, ◌≤◌, ◌<◌}
 use native.Mathlib.Omega.{arith}
 use lib.ListN.{length}
@@ -74,7 +75,10 @@ overflow_add-kept c =
     omega (arith, rows_fit)
 
 pub overflow_add-bytes : goal.overflow_add-bytes
-overflow_add-bytes c = omega (arith, overflow_add-off c.before.before.before.before.before.before.before.before.before, c.loop-at.invariant.1.small)
+overflow_add-bytes c =
+    let of = state_of c.args.queue c.args.table.now c.args.pool.now in
+    let bytes_fit :  c.loop-at.off + c.sum_long-size.result ≤ length of.pool = skip_bytes c.loop-at.invariant.1 (omega arith) c.set_at-k.ensures c.sum_long-size.ensures in
+    omega (arith, bytes_fit, c.loop-at.invariant.1.small)
 
 pub loop-at-smaller-then-not-passed_over : goal.loop-at-smaller-then-not-passed_over
 loop-at-smaller-then-not-passed_over c =
@@ -86,7 +90,7 @@ pub loop-at-preserved-then-not-passed_over : goal.loop-at-preserved-then-not-pas
 loop-at-preserved-then-not-passed_over c =
      (
       omega arith,
-      skip_stays c.loop-at.invariant.1 (omega arith) c.set_at-k.ensures c.sum_long-size.ensures c.passed_over.ensures c.if-not-passed_over.true {rows' = rows_of frags_most c.move_down.new.0}
+      skip_stays c.loop-at.invariant.1 (omega arith) c.set_at-k.ensures c.sum_long-size.ensures c.passed_over.ensures (ap not c.if-not-passed_over.true) {rows' = rows_of frags_most c.move_down.new.table}
           c.move_down.ensures.table_after c.move_down.ensures.pool_after,
     )
 
@@ -100,7 +104,7 @@ pub loop-at-preserved : goal.loop-at-preserved
 loop-at-preserved c =
      (
       c.loop-at.invariant.0,
-      skip_goes c.loop-at.invariant.1 (omega arith) c.set_at-k.ensures c.sum_long-size.ensures c.passed_over.ensures c.if-not-passed_over.false,
+      skip_goes c.loop-at.invariant.1 (omega arith) c.set_at-k.ensures c.sum_long-size.ensures c.passed_over.ensures (ap not c.if-not-passed_over.false),
     )
 
 pub returns : goal.returns

@@ -17,13 +17,13 @@ pub overflow_add-off : goal.overflow_add-off
 overflow_add-off c =
     let place : (n : ℕ) → n ≤ c.args.bytes → Fits w64 n = λ n h. search rules in
     let rows = rows_of frags_most c.args.table.now in
-    let ends : c.args.off + c.args.size ≤ c.args.bytes = let p = c.requires.1.1 in omega (arith, run_end rows c.args.pool.now c.args.held c.args.from c.args.k p.0, p.1.1.0, p.1.1.1.1) in
+    let ends : c.args.off + c.args.size ≤ c.args.bytes = omega (arith, run_end rows c.args.pool.now c.args.held c.args.from c.args.k c.requires.k_bound, c.requires) in
     place (c.args.off + c.args.size) ends
 
 pub slice_bounds-put_bytes-end : goal.slice_bounds-put_bytes-end
 slice_bounds-put_bytes-end c =
     let rows = rows_of frags_most c.args.table.now in
-    let ends : c.args.off + c.args.size ≤ c.args.bytes = let p = c.requires.1.1 in omega (arith, run_end rows c.args.pool.now c.args.held c.args.from c.args.k p.0, p.1.1.0, p.1.1.1.1) in
+    let ends : c.args.off + c.args.size ≤ c.args.bytes = omega (arith, run_end rows c.args.pool.now c.args.held c.args.from c.args.k c.requires.k_bound, c.requires) in
     omega (arith, ends, c.requires)
 
 pub row_at-first-requires : goal.row_at-first-requires
@@ -52,14 +52,11 @@ returns c =
     let full : length rows ≡ frags_most = rows_long frags_most c.args.table.now c.requires.table_len in
     let fits : B (take c.args.held rows) ≤ length c.args.pool.now = omega (arith, c.requires) in
     let a = c.args in
-    let p = c.requires.1.1 in
-    let sized = p.1.1.1.1.1.0 in
+    let p = c.requires in
+    let sized = p.size_value in
     record {
-      result_value = run-message rows a.pool.now a.held a.from a.k p.0 p.1.0 (omega (arith, full, c.requires)) fits a.ordered c.row_at-first.ensures sized c.in_hand.ensures;
+      result_value = run-message rows a.pool.now a.held a.from a.k p.k_bound p.k_nonzero (omega (arith, full, c.requires)) fits a.ordered c.row_at-first.ensures sized c.in_hand.ensures;
       table_after = c.close_fragments.ensures.table_after;
-      pool_after = (
-          c.close_fragments.ensures.pool_after,
-          run_out rows a.pool.now a.held a.from a.k p.0 a.buffer.now p.1.1.1.1.0 sized c.put_bytes.ensures,
-        );
-      buffer_after = ;
+      pool_after = c.close_fragments.ensures.pool_after;
+      buffer_after = run_out rows a.pool.now a.held a.from a.k p.k_bound a.buffer.now p.off_value sized c.put_bytes.ensures;
     }

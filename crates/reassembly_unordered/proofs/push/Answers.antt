@@ -3,7 +3,6 @@ use mathlib.Core.Path.{◌≡◌, sym, ap, ◌∙◌}
 use Prim.Native.Nat.{◌+◌, ◌≤◌, ◌<◌}
 use borrow.Author.Rules.{rules}
 use native.Mathlib.Omega.{arith}
-use borrow.Author.Tests.{not-true, not-false}
 use lib.ListN.{length}
 use Rattle.table.proofs.Columns.{rows_long}
 use Rattle.reassembly_state.specs.Limits.{frags_most, bytes_most}
@@ -54,14 +53,19 @@ returns-then-not-room c =
     let ok : Sound of = sound of c.requires.pool_value in
     let full : length of.rows ≡ frags_most = rows_long frags_most c.args.table.now c.requires.table_len in
     rw (c.unchanged-then-not-room.ensures.0, c.unchanged-then-not-room.ensures.1)
-    (push_crowded of ok full c.args.chunk c.args.user_data.now c.args.room (sym c.too_large.ensures ∙ c.if-too_large.false) (sym c.has_tsn.ensures ∙ c.if-has_tsn.false) (not-true _ c.if-not-room.true))
+    (push_crowded of ok full c.args.chunk c.args.user_data.now c.args.room (sym c.too_large.ensures ∙ c.if-too_large.false) (sym c.has_tsn.ensures ∙ c.if-has_tsn.false) c.if-not-room.true)
 
 pub store_loose-grown-requires : goal.store_loose-grown-requires
 unfolding fragment_of
 store_loose-grown-requires c =
     let new = fragment_of c.args.chunk c.args.user_data.now in
-    let room : ( (count c.args.queue < frags_most) × (c.args.queue.n_bytes + length new.bytes ≤ bytes_most)) = c.requires.fits_if (not-false _ c.if-not-room.false) in
-    (c.requires.table_len, (c.requires.pool_value, room))
+    let room : ( (count c.args.queue < frags_most) × (c.args.queue.n_bytes + length new.bytes ≤ bytes_most)) = c.requires.fits_if c.if-not-room.false in
+    record {
+      table_len = c.requires.table_len;
+      pool_value = c.requires.pool_value;
+      queue_bound = room.0;
+      user_data_bound = room.1;
+    }
 
 pub settle-requires : goal.settle-requires
 unfolding fragment_of
@@ -70,7 +74,7 @@ settle-requires c =
     let ok : Sound of = sound of c.requires.pool_value in
     let full : length of.rows ≡ frags_most = rows_long frags_most c.args.table.now c.requires.table_len in
     let new = fragment_of c.args.chunk c.args.user_data.now in
-    let room : ( (count c.args.queue < frags_most) × (c.args.queue.n_bytes + length new.bytes ≤ bytes_most)) = c.requires.fits_if (not-false _ c.if-not-room.false) in
+    let room : ( (count c.args.queue < frags_most) × (c.args.queue.n_bytes + length new.bytes ≤ bytes_most)) = c.requires.fits_if c.if-not-room.false in
     record {
       table_len = search rules;
       pool_value = ap unsound c.store_loose-grown.ensures ∙ stored_sound of ok full new room.0 room.1;
@@ -83,7 +87,7 @@ returns c =
     let ok : Sound of = sound of c.requires.pool_value in
     let full : length of.rows ≡ frags_most = rows_long frags_most c.args.table.now c.requires.table_len in
     let new = fragment_of c.args.chunk c.args.user_data.now in
-    let room : ( (count c.args.queue < frags_most) × (c.args.queue.n_bytes + length new.bytes ≤ bytes_most)) = c.requires.fits_if (not-false _ c.if-not-room.false) in
+    let room : ( (count c.args.queue < frags_most) × (c.args.queue.n_bytes + length new.bytes ≤ bytes_most)) = c.requires.fits_if c.if-not-room.false in
     c.settle.ensures ∙ ap (λ (x : State). laid x (settled (view x))) c.store_loose-grown.ensures
     ∙ stored-settled of ok full new room.0 room.1
-    ∙ push_stores of ok full c.args.chunk c.args.user_data.now c.args.room (sym c.too_large.ensures ∙ c.if-too_large.false) (sym c.has_tsn.ensures ∙ c.if-has_tsn.false) (not-false _ c.if-not-room.false)
+    ∙ push_stores of ok full c.args.chunk c.args.user_data.now c.args.room (sym c.too_large.ensures ∙ c.if-too_large.false) (sym c.has_tsn.ensures ∙ c.if-has_tsn.false) c.if-not-room.false

@@ -5,4 +5,4 @@ use Rattle.replay_lines.proofs.put_record.Goals as goal
 
 pub returns : goal.returns
 unfolding line
-returns c = all-put (then c.decimal_at-space.ensures.behind (then c.put_at-what.ensures (then c.Said_at.ensures.0 c.put_at.ensures)))
+returns c = all-put (then c.decimal_at-space.ensures.behind (then c.put_at-what.ensures (then c.said_at-end.ensures.behind c.put_at.ensures)))

@@ -4,13 +4,13 @@ use Rattle.serial_model.specs.Compared.{compared_is}
 use Rattle.serial_compare.proofs.tsn_compare.Goals as goal
 
 pub returns-then-steps-gt0 : goal.returns-then-steps-gt0
-returns-then-steps-gt0 c =  rw (compared_is 31, ← c.tsn_offset-steps.ensures, lt-ltb _ _ c.if-steps-lt2147483648.true, lt-ltb 0 _ c.if-steps-gt0.true)
+returns-then-steps-gt0 c = rw (compared_is 31, ← c.tsn_offset-steps.ensures, lt-ltb _ _ c.if-steps-lt2147483648.true, lt-ltb 0 _ c.if-steps-gt0.true)
 
 pub returns-then-steps-lt2147483648 : goal.returns-then-steps-lt2147483648
-returns-then-steps-lt2147483648 c =  rw (compared_is 31, ← c.tsn_offset-steps.ensures, lt-ltb _ _ c.if-steps-lt2147483648.true, le-ltb 0 _ c.if-steps-gt0.false)
+returns-then-steps-lt2147483648 c = rw (compared_is 31, ← c.tsn_offset-steps.ensures, lt-ltb _ _ c.if-steps-lt2147483648.true, le-ltb 0 _ c.if-steps-gt0.false)
 
 pub returns-then-steps : goal.returns-then-steps
-returns-then-steps c =  rw (compared_is 31, ← c.tsn_offset-steps.ensures, le-ltb _ _ c.if-steps-lt2147483648.false, eq-eqb _ _ c.if-steps.true)
+returns-then-steps c = rw (compared_is 31, ← c.tsn_offset-steps.ensures, le-ltb _ _ c.if-steps-lt2147483648.false, eq-eqb _ _ c.if-steps.true)
 
 pub returns : goal.returns
-returns c =  rw (compared_is 31, ← c.tsn_offset-steps.ensures, le-ltb _ _ c.if-steps-lt2147483648.false, ne_eqb _ _ c.if-steps.false)
+returns c = rw (compared_is 31, ← c.tsn_offset-steps.ensures, le-ltb _ _ c.if-steps-lt2147483648.false, ne_eqb _ _ c.if-steps.false)

@@ -6,7 +6,7 @@ use Rattle.set_reach.proofs.Reach.{gap_none, gap-filled, gap-later, gap_found, g
 use Rattle.set_reach.proofs.has_gap.Goals as goal
 
 pub loop-i-init : goal.loop-i-init
-loop-i-init c =  (refl, refl, gap_none c.args.tsn c.args.size c.args.table.now c.args.from c.args.n c.requires.table_len c.requires.n_bound c.requires.n_nonzero)
+loop-i-init c = (refl, refl, gap_none c.args.tsn c.args.size c.args.table.now c.args.from c.args.n c.requires.table_len c.requires.n_bound c.requires.n_nonzero)
 
 pub returns-then-sna32lte : goal.returns-then-sna32lte
 returns-then-sna32lte c = gap_found c.loop-i.invariant.2 (omega arith) (λ e. c.if-table-tsns.true (e ∙ sym c.tsn_next-next.ensures)) (rw c.tsn_next-next.ensures at (sym c.sna32lte.ensures ∙ c.if-sna32lte.true))
@@ -18,7 +18,7 @@ pub loop-i-preserved : goal.loop-i-preserved
 loop-i-preserved c = (refl, refl, gap-filled c.loop-i.invariant.2 (omega arith) (c.if-table-tsns.false ∙ c.tsn_next-next.ensures))
 
 pub returns-then-table-from-eq1 : goal.returns-then-table-from-eq1
-returns-then-table-from-eq1 c =  gap-ended c.loop-i.invariant.2 (omega arith) (omega (arith, c.loop-i.invariant.2.within)) c.if-table-from-eq1.true
+returns-then-table-from-eq1 c = gap-ended c.loop-i.invariant.2 (omega arith) (omega (arith, c.loop-i.invariant.2.within)) c.if-table-from-eq1.true
 
 pub returns : goal.returns
 returns c = gap_unended c.loop-i.invariant.2 (omega arith) (omega (arith, c.loop-i.invariant.2.within)) c.if-table-from-eq1.false {p = c.args.size + c.args.from + (c.args.n - 1)} (omega (arith, c.loop-i.invariant.2.within)) (rw c.tsn_next.ensures at c.sna32lte-2.ensures)

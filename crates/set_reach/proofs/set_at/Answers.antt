@@ -2,4 +2,4 @@
 use Rattle.set_reach.proofs.set_at.Goals as goal
 
 pub returns : goal.returns
-returns c =  rw (← c.row_at-first.ensures) c.run_ssn.ensures
+returns c = rw (← c.row_at-first.ensures) c.run_ssn.ensures

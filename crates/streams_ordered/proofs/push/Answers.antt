@@ -3,7 +3,6 @@ use mathlib.Core.Path.{◌≡◌, ap, ◌∙◌}
 use mathlib.Core.Bool.{true, false}
 use Prim.Native.Nat.{◌*◌, ◌<◌}
 use borrow.Author.Rules.{rules}
-use borrow.Author.Tests.{not-true, not-false}
 use lib.ListN.{length}
 use Rattle.table.proofs.Columns.{rows_long}
 use Rattle.reassembly_state.specs.Limits.{frags_most}
@@ -53,7 +52,7 @@ returns-then-not-asked c =
     let here : c.args.stream < streams_most = search rules in
     let front : c.among_front-place.result.queue ≡ among_none of.queues c.args.stream = c.among_front-place.ensures.queue_value in
     let asks :  let r = c.ask-asked.result in Asks (among of c.args.stream 0 0) c.args.room c.args.chunk (length c.args.user_data.now) (flag_told r.answer) r.keep r.at r.run = asks_front of ok full c.args.stream here front (c.ask-asked.ensures c.args.pool.now) in
-    away of ok full c.args.stream here c.args.chunk c.args.user_data.now asks (not-true _ c.if-not-asked.true)
+    away of ok full c.args.stream here c.args.chunk c.args.user_data.now asks (c.if-not-asked.true)
 
 pub keep-requires : goal.keep-requires
 keep-requires c =
@@ -66,7 +65,7 @@ keep-requires c =
     let roomy : roomy_if c.args.room of (length c.args.user_data.now) = search rules in
     let sized : length c.args.table.now ≡ 4 * frags_most = search rules in
     let r = asks in
-    let room = roomy (r.with_room (not-false _ c.if-not-asked.false)) in
+    let room = roomy (r.with_room (c.if-not-asked.false)) in
     record {
       table_len = sized;
       pool_value = search rules;
@@ -88,4 +87,4 @@ returns c =
     let front : c.among_front-place.result.queue ≡ among_none of.queues c.args.stream = c.among_front-place.ensures.queue_value in
     let asks :  let r = c.ask-asked.result in Asks (among of c.args.stream 0 0) c.args.room c.args.chunk (length c.args.user_data.now) (flag_told r.answer) r.keep r.at r.run = asks_front of ok full c.args.stream here front (c.ask-asked.ensures c.args.pool.now) in
     c.keep.ensures
-    ∙ ap (laid of c.args.stream) (kept-is of ok full c.args.stream here c.args.chunk c.args.user_data.now asks (not-false _ c.if-not-asked.false))
+    ∙ ap (laid of c.args.stream) (kept-is of ok full c.args.stream here c.args.chunk c.args.user_data.now asks (c.if-not-asked.false))

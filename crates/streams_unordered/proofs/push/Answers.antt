@@ -17,6 +17,9 @@ use Rattle.streams_model.proofs.Laws.{Sound, sound, bytes_bounded}
 use Rattle.streams_model.proofs.Left.{Left, left_fits, left_is, lent_sound, lent_fits, unordered-told, unordered-left}
 use Rattle.streams_unordered.proofs.push.Goals as goal
 
+both : {t u : Told Bool} {x y : State} → t ≡ u → x ≡ y → after t x ≡ after u y
+both e f = rw (e, f)
+
 pub among_all-among-requires : goal.among_all-among-requires
 among_all-among-requires c =
     let here : c.args.stream < streams_most = search rules in
@@ -48,17 +51,23 @@ put_back-requires c =
     let ok : Sound of = sound of (search rules) in
     let full : length of.rows ≡ frags_most = rows_long frags_most c.args.table.now (search rules) in
     let new = fragment_of c.args.chunk c.args.user_data.now in
-    let left :  Left of c.args.stream (push_unordered c.args.room (own of c.args.stream) new).queue c.push-left.result.queue (rows_of frags_most c.push-left.new.1.0) c.push-left.new.1.1.0 = unordered-left of ok full c.args.stream here c.among_all-among.ensures.queue_value c.args.room new c.push-left.ensures in
-    (here, left_fits of ok full c.args.stream here left c.among_all-among.ensures.others)
+    let left :  Left of c.args.stream (push_unordered c.args.room (own of c.args.stream) new).queue c.push-left.result.queue (rows_of frags_most c.push-left.new.table) c.push-left.new.pool = unordered-left of ok full c.args.stream here c.among_all-among.ensures.queue_value c.args.room new c.push-left.ensures in
+    let rest = left_fits of ok full c.args.stream here left c.among_all-among.ensures.others in
+    record {
+      stream_lt_streams_most = here;
+      rows_le_finished = rest.0;
+      rows_le_ordered = rest.1.0;
+      bytes_bound = rest.1.1;
+    }
 
--- CONV returns: returns : tie.Need-returns
--- returns c =
---     let p = c.before.before.before.before.before in
---     let a = asked p in
---     let s = start a in
---     let told = unordered-told (of s) (ok s) (full s) s.args.stream (here s) a.among-all.ensures.1 s.args.room (new s) p.push.ensures in
---     let state = left_is (of s) (ok s) (full s) s.args.stream (here s) (left p) a.among-all.ensures.0 c.put_back.ensures in
---     both told state
---   where
---     both : {t u : Told Bool} {x y : State} → t ≡ u → x ≡ y → after t x ≡ after u y
---     both e f = rw (e, f)
+pub returns : goal.returns
+returns c =
+    let of = state_of c.args.streams c.args.table.now c.args.pool.now in
+    let ok : Sound of = sound of (search rules) in
+    let full : length of.rows ≡ frags_most = rows_long frags_most c.args.table.now (search rules) in
+    let here : c.args.stream < streams_most = search rules in
+    let new = fragment_of c.args.chunk c.args.user_data.now in
+    let left :  Left of c.args.stream (push_unordered c.args.room (own of c.args.stream) new).queue c.push-left.result.queue (rows_of frags_most c.push-left.new.table) c.push-left.new.pool = unordered-left of ok full c.args.stream here c.among_all-among.ensures.queue_value c.args.room new c.push-left.ensures in
+    let told = unordered-told of ok full c.args.stream here c.among_all-among.ensures.queue_value c.args.room new c.push-left.ensures in
+    let state = left_is of ok full c.args.stream here left c.among_all-among.ensures.others c.put_back.ensures in
+    both told state

@@ -9,4 +9,4 @@ returns-then-unsound c = rw (sym c.unsound.ensures ∙ c.if-unsound.true)
 
 pub returns : goal.returns
 unfolding is_empty
-returns c =  rw (sym c.unsound.ensures ∙ c.if-unsound.false)
+returns c = rw (sym c.unsound.ensures ∙ c.if-unsound.false)

@@ -13,7 +13,7 @@ unfolding finished next_piece
 returns-then-finished c = rw (sym c.unsound.ensures ∙ c.if-unsound.false, sym c.finished.ensures ∙ c.if-finished.true)
 
 pub piece-piece-requires : goal.piece-piece-requires
-piece-piece-requires c =  (sound _ _ (sym c.unsound.ensures ∙ c.if-unsound.false)).within
+piece-piece-requires c = (sound _ _ (sym c.unsound.ensures ∙ c.if-unsound.false)).within
 
 pub returns : goal.returns
 unfolding finished moved next_piece

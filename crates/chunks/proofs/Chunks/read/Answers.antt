@@ -13,7 +13,7 @@ unfolding whole_read
 returns-then-unsound c = rw (sym c.unsound.ensures ∙ c.if-unsound.true)
 
 pub copy-requires : goal.copy-requires
-copy-requires c =  (sound _ _ (sym c.unsound.ensures ∙ c.if-unsound.false)).lent
+copy-requires c = (sound _ _ (sym c.unsound.ensures ∙ c.if-unsound.false)).lent
 
 pub returns-then-copy : goal.returns-then-copy
 unfolding whole_read

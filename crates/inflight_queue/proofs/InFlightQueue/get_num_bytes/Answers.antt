@@ -2,4 +2,4 @@
 use Rattle.inflight_queue.proofs.InFlightQueue.get_num_bytes.Goals as goal
 
 pub returns : goal.returns
-returns c = rw c.counts.ensures at (c.get_num_bytes.ensures ms)
+returns c ms = rw c.counts.ensures at (c.get_num_bytes.ensures ms)

@@ -2,4 +2,4 @@
 use Rattle.inflight_queue.proofs.InFlightQueue.len.Goals as goal
 
 pub returns : goal.returns
-returns c = rw c.counts.ensures at (c.len.ensures ms)
+returns c ms = rw c.counts.ensures at (c.len.ensures ms)

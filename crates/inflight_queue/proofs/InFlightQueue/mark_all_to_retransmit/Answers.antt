@@ -2,4 +2,4 @@
 use Rattle.inflight_queue.proofs.InFlightQueue.mark_all_to_retransmit.Goals as goal
 
 pub returns : goal.returns
-returns c = rw c.queue_of.ensures (rw c.counts.ensures at (c.mark_all_to_retransmit-left.ensures ms))
+returns c ms = rw c.queue_of.ensures (rw c.counts.ensures at (c.mark_all_to_retransmit-left.ensures ms))
