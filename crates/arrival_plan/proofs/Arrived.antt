@@ -230,7 +230,7 @@ module _ (si base max : ℕ) where
           (λ r. subst (λ (l : List Frag). Enters (state n os (was a o i u f v b) fin) (chunk true f) (queue si n max l (held_of (a ++ b)) (held_of os))) e
           (loose-done a o i u f v b base max s.unordered si n (frags_of fin) (held_of os) r ab.0 d))
           (subst (λ (l : List Msg). Good es n (map msg os) l fin (state n os (a ++ b) (fin ++ (m ∷ [])))) (sym (map-append msg a (part o i (u ++ came f ∷ v) ∷ b)) ∙ same-msgs o i u f v a b)
-          (finish_one es n (map msg os) (map msg a) m (map msg b) fin (state n os (a ++ b) (fin ++ (m ∷ []))) (rw map-append at g)))
+          (finish_one es n (map msg os) (map msg a) m (map msg b) fin (state n os (a ++ b) (fin ++ (m ∷ []))) (rw (map-append msg a b) at g)))
 
   push_step : (c : Carried) (es : List Event) → Runs es → Runs (Push c ∷ es)
   push_step c es ih n os us fin s o = let k = order_cons o in go k (at-chunks (missing-of os) (missing-of us) k.front c k.back k.is)

@@ -1,5 +1,6 @@
 // What reading the causes of an ERROR or ABORT chunk is made of: the cause at a place, and the chunk in a cause's value.
 #![tactic(auto)]
+
 ghost use Rattle.std.specs.Prelude.{◌≤◌, length, drop};
 ghost use Rattle.cause_parts.specs.Fronts.{CauseAt, ChunkAt};
 

@@ -1,5 +1,6 @@
 // The causes of an ERROR or ABORT chunk, counted first and then written to the front of the lent lists.
 #![tactic(auto)]
+
 ghost use Rattle.std.specs.Prelude.{◌≡◌, ◌≤◌, length, drop};
 ghost use Rattle.cause_parts.specs.Causes.{causes};
 ghost use Rattle.cause_parts.specs.Lists.{lists};

@@ -1,6 +1,7 @@
 // The causes of an ERROR or ABORT chunk, and of the chunks that they hold: a chunk reader and a cause-list reader that call each other.
 // Each call is on fewer bytes; no other limit of depth is set.
 #![tactic(auto)]
+
 ghost use Rattle.std.specs.Prelude.{◌≡◌, length, drop};
 ghost use Rattle.cause_parts.specs.Causes.{causes, chunk_held};
 ghost use Rattle.cause_parts.specs.Lists.{noted};

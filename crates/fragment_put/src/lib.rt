@@ -1,5 +1,6 @@
 // A fragment put in among those held.
 #![tactic(auto)]
+
 ghost use Rattle.std.specs.Prelude.{◌≡◌, [], ◌∷◌, ◌+◌, ◌*◌, ◌≤◌, ◌<◌, length, take};
 ghost use Rattle.moves_model.specs.Lists.{put};
 ghost use Rattle.table.specs.Rows.{rows_of, total};

@@ -1,5 +1,6 @@
 // Whether loose fragments have a beginning and an ending among them.
 #![tactic(auto)]
+
 ghost use Rattle.std.specs.Prelude.{◌≡◌, ◌&&◌, ◌+◌, ◌*◌, ◌≤◌, length, take, drop};
 ghost use Rattle.table.specs.Rows.{rows_of, some};
 ghost use Rattle.fragments.specs.Frag.{of_row, begins, ends};

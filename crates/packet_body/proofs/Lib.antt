@@ -1,2 +1,3 @@
 pub mod Padding
 pub mod Passing
+pub mod Putting

@@ -1,5 +1,6 @@
 // The chunks of a packet that is written: lent back to back without padding, put one behind the other with it.
 #![tactic(auto)]
+
 ghost use Rattle.std.specs.Prelude.{◌≡◌, ◌≤◌, length};
 ghost use Rattle.wire_model.specs.BigEndian.{over};
 ghost use Rattle.wire_model.specs.Refusal.{none, first};

@@ -1,5 +1,6 @@
 // Packets, written: the common header of RFC 4960 section 3.1, chunks with their padding, and the checksum.
 #![tactic(auto)]
+
 ghost use Rattle.std.specs.Prelude.{◌≡◌};
 ghost use Rattle.wire_model.specs.Refusal.{written};
 ghost use Rattle.chunk.specs.Marshal.{marshal_told};

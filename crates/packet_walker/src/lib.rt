@@ -1,5 +1,6 @@
 // A walk over the chunks of a packet: the packet and a place in it, kept together, and thin calls over those that take both, two of which are handed on.
 #![tactic(auto)]
+
 ghost use Rattle.std.specs.Prelude.{◌≡◌};
 ghost use Rattle.packet_chunks.specs.Chunks.{step_told, step_at};
 ghost use Rattle.packet_places.specs.Walk.{lies, bytes_at, place_after};

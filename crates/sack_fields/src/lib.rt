@@ -1,5 +1,6 @@
 // The fields of a SACK chunk (RFC 4960 section 3.3.4), read.
 #![tactic(auto)]
+
 ghost use Rattle.std.specs.Prelude.{◌≡◌, ◌≤◌, length};
 ghost use Rattle.sack_fields.specs.Sack.{sack_held, sack_told, SackFront, sack_read, Lists};
 

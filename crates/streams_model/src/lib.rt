@@ -1,5 +1,6 @@
 // Eight streams that share one table and one pool (document 02, M-112): their counts, one behind the other, and what every call's answer is.
 #![tactic(auto)]
+
 ghost use Rattle.std.specs.Prelude.{◌≡◌, ◌<◌, get_or, set};
 ghost use Rattle.streams_model.specs.Limits.{streams_most};
 ghost use Rattle.streams_model.specs.Shape.{queues_of, no_counts, fresh_streams};

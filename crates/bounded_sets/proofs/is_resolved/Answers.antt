@@ -1,6 +1,5 @@
 -- `bounded_sets::is_resolved` meets its contract: of the TSNs of the rows passed that count the lowest is kept.
 use mathlib.Core.Path.{sym, ◌∙◌}
-use Prim.Native.Nat.{◌-◌}
 use native.Mathlib.Omega.{arith}
 use Rattle.reassembly_state.specs.Limits.{frags_most}
 use Rattle.bounded_sets.proofs.Lowest.{lowest_none, lowest-past, lowest-one, lowest_none_found, lowest_found}

@@ -1,6 +1,6 @@
 -- `bounded_sets::is_settled` meets its contract: where no set passed does, those from the row at i on decide.
 use mathlib.Core.Path.{sym, ◌∙◌}
-use Prim.Native.Nat.{◌+◌, ◌-◌, ◌≤◌, ◌<◌}
+use Prim.Native.Nat.{◌+◌, ◌≤◌, ◌<◌}
 use native.Mathlib.Omega.{arith}
 use Rattle.set_reach.proofs.Passing.{set_fits}
 use Rattle.set_reach.proofs.Keeping.{looking_none, looking_past, looking_found, looking_all}

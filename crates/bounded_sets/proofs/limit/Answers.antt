@@ -1,6 +1,6 @@
 -- `bounded_sets::limit` meets its contract: of the SSNs of the sets passed that hold back the lowest is kept.
 use mathlib.Core.Path.{sym, ◌∙◌}
-use Prim.Native.Nat.{◌+◌, ◌-◌, ◌≤◌, ◌<◌}
+use Prim.Native.Nat.{◌+◌, ◌≤◌, ◌<◌}
 use native.Mathlib.Omega.{arith}
 use Rattle.set_reach.specs.Kept.{lower}
 use Rattle.set_reach.proofs.Passing.{set_fits}

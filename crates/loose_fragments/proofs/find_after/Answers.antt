@@ -1,6 +1,6 @@
 -- `loose_fragments::find_after` meets its contract: the rows ahead are those passed and those ahead in the rest.
 use mathlib.Core.Path.{refl, sym, ◌∙◌}
-use Prim.Native.Nat.{◌+◌, ◌-◌}
+use Prim.Native.Nat.{◌+◌}
 use native.Mathlib.Omega.{arith}
 use Rattle.table.specs.Rows.{rows_of}
 use Rattle.table.proofs.Columns.{rows_long}

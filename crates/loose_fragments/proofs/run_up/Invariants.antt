@@ -1,6 +1,6 @@
 -- `loose_fragments::run_up` meets its contract: after i turns the sum and the run from the wanted TSN on make up the whole run.
 use mathlib.Core.Bool.{Bool}
-use Prim.Native.Nat.{ℕ, ◌-◌, ◌/◌, ◌%◌}
+use Prim.Native.Nat.{ℕ, ◌-◌, ◌%◌}
 use lib.Dec.{eqb}
 use Rattle.serial_model.specs.Serial.{next}
 use Rattle.loose_fragments.proofs.Run.{Run}

@@ -1,7 +1,6 @@
 -- `loose_fragments::scan_rows` meets its contract: after i turns the scan of the rest is that of the whole.
 use mathlib.Core.Path.{refl}
 use mathlib.Core.Logic.{inl, inr}
-use Prim.Native.Nat.{◌-◌}
 use native.Mathlib.Omega.{arith}
 use borrow.Author.Tests.{eq-eqb, ne_eqb}
 use Rattle.loose_fragments.proofs.Scanned.{scan_none, scan_found, scan-on, scan-all}

@@ -1,6 +1,6 @@
 -- `loose_marks::has_marks` meets its contract: after i turns it is whether one of the first i rows is B, and whether one is E.
 use mathlib.Core.Path.{◌≡◌, refl}
-use Prim.Native.Nat.{◌+◌, ◌-◌}
+use Prim.Native.Nat.{◌+◌}
 use native.Mathlib.Omega.{arith}
 use Rattle.table.specs.Rows.{rows_of, some}
 use Rattle.table.proofs.Columns.{rows_long}
@@ -22,4 +22,4 @@ loop-i-preserved c =
     (omega arith, rw (more, some-snoc, ← c.loop-i.invariant.1, h), rw (more, some-snoc, ← c.loop-i.invariant.2, h))
 
 pub returns : goal.returns
-returns c =  let e : c.loop-i.i ≡ c.args.n = omega arith in rw (rw e at c.loop-i.invariant.1, rw e at c.loop-i.invariant.2)
+returns c = let e : c.loop-i.i ≡ c.args.n = omega arith in rw (rw e at c.loop-i.invariant.1, rw e at c.loop-i.invariant.2)

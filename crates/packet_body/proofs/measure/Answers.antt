@@ -28,19 +28,19 @@ returns-in-Refused c =
 
 pub overflow_add-at : goal.overflow_add-at
 overflow_add-at c =
-    let good : ( let rest = drop c.loop-at.at c.args.chunks.now in (first (front_checks rest) ≡ none) × (c.in-Bytes.n ≡ front_size rest)) = let chunks = c.args.chunks.now in size-told (drop c.loop-at.at chunks) (rw (c.in-Bytes.is, left-whole chunks c.loop-at.at) at c.chunk_size-front.ensures.result_value) in
-    let room : ( let n = c.in-Bytes.n in (4 ≤ n) × (c.loop-at.at + n ≤ length c.args.chunks.now)) = let g = good in chunk-room c.loop-at.invariant.2 (omega arith) g.0 g.1 in
+    let good : (let rest = drop c.loop-at.at c.args.chunks.now in (first (front_checks rest) ≡ none) × (c.in-Bytes.n ≡ front_size rest)) = let chunks = c.args.chunks.now in size-told (drop c.loop-at.at chunks) (rw (c.in-Bytes.is, left-whole chunks c.loop-at.at) at c.chunk_size-front.ensures.result_value) in
+    let room : (let n = c.in-Bytes.n in (4 ≤ n) × (c.loop-at.at + n ≤ length c.args.chunks.now)) = let g = good in chunk-room c.loop-at.invariant.2 (omega arith) g.0 g.1 in
     omega (arith, room)
 
 pub loop-at-smaller : goal.loop-at-smaller
 loop-at-smaller c =
-    let good : ( let rest = drop c.loop-at.at c.args.chunks.now in (first (front_checks rest) ≡ none) × (c.in-Bytes.n ≡ front_size rest)) = let chunks = c.args.chunks.now in size-told (drop c.loop-at.at chunks) (rw (c.in-Bytes.is, left-whole chunks c.loop-at.at) at c.chunk_size-front.ensures.result_value) in
-    let room : ( let n = c.in-Bytes.n in (4 ≤ n) × (c.loop-at.at + n ≤ length c.args.chunks.now)) = let g = good in chunk-room c.loop-at.invariant.2 (omega arith) g.0 g.1 in
+    let good : (let rest = drop c.loop-at.at c.args.chunks.now in (first (front_checks rest) ≡ none) × (c.in-Bytes.n ≡ front_size rest)) = let chunks = c.args.chunks.now in size-told (drop c.loop-at.at chunks) (rw (c.in-Bytes.is, left-whole chunks c.loop-at.at) at c.chunk_size-front.ensures.result_value) in
+    let room : (let n = c.in-Bytes.n in (4 ≤ n) × (c.loop-at.at + n ≤ length c.args.chunks.now)) = let g = good in chunk-room c.loop-at.invariant.2 (omega arith) g.0 g.1 in
     omega (arith, room)
 
 pub loop-at-preserved : goal.loop-at-preserved
 loop-at-preserved c =
-    let good : ( let rest = drop c.loop-at.at c.args.chunks.now in (first (front_checks rest) ≡ none) × (c.in-Bytes.n ≡ front_size rest)) = let chunks = c.args.chunks.now in size-told (drop c.loop-at.at chunks) (rw (c.in-Bytes.is, left-whole chunks c.loop-at.at) at c.chunk_size-front.ensures.result_value) in
+    let good : (let rest = drop c.loop-at.at c.args.chunks.now in (first (front_checks rest) ≡ none) × (c.in-Bytes.n ≡ front_size rest)) = let chunks = c.args.chunks.now in size-told (drop c.loop-at.at chunks) (rw (c.in-Bytes.is, left-whole chunks c.loop-at.at) at c.chunk_size-front.ensures.result_value) in
     let inv = c.loop-at.invariant in
     let g = good in
     let chunk = take c.in-Bytes.n (drop c.loop-at.at c.args.chunks.now) in

@@ -1,6 +1,7 @@
 -- `packet_body::put_body` meets its contract: each turn puts one chunk with its padding behind those that are done.
 use Prim.Native.Nat.{◌-◌}
 use lib.ListN.{length}
+use Rattle.packet_body.proofs.Putting.{Put}
 use Rattle.packet_body.proofs.put_body.Given as goal
 
 abbrev pub invariant-loop-from : goal.invariant-loop-from

@@ -45,7 +45,7 @@ returns-in-Refused c =
     let a = c.args in
     let lent = a.chunks.now in
     packet-refused (common a.source_port a.destination_port a.verification_tag) lent a.out.now
-    (measured_refused lent (rw c.before.decreases.given.1 at c.measure-measured.ensures.result_value))
+    (measured_refused lent (rw c.in-Refused.is at c.measure-measured.ensures.result_value))
 
 pub returns-else-out-size : goal.returns-else-out-size
 unfolding packet_written
@@ -55,8 +55,8 @@ returns-else-out-size c =
     let a = c.args in
     let lent = a.chunks.now in
     let out = a.out.now in
-    let c = common a.source_port a.destination_port a.verification_tag in
-    let zeroed = behind out (common_bytes c 0) (body lent) 12 (common-length c 0) c.put_common.ensures c.put_body.ensures in
-    let sum = sum_is c (body lent) out zeroed (ap (λ (k : ℕ). 12 + k) told.1) c.crc32c-sum.ensures in
-    write_done (lent_checks lent) (packet c (body lent)) out told.0 size c.if-out-size.false
-    (sum-put c (body lent) out zeroed c.swapped.result sum c.swapped.ensures c.put_u32.ensures)
+    let head = common a.source_port a.destination_port a.verification_tag in
+    let zeroed = behind out (common_bytes head 0) (body lent) 12 (common-length head 0) c.put_common.ensures c.put_body.ensures in
+    let sum = sum_is head (body lent) out zeroed (ap (λ (k : ℕ). 12 + k) told.1) c.crc32c-sum.ensures in
+    write_done (lent_checks lent) (packet head (body lent)) out told.0 size c.if-out-size.false
+    (sum-put head (body lent) out zeroed c.swapped.result sum c.swapped.ensures c.put_u32.ensures)

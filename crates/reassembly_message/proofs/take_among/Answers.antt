@@ -18,15 +18,14 @@ returns-then-buffer-size c =
 pub take_run-hand-requires : goal.take_run-hand-requires
 take_run-hand-requires c =
     let p = c.requires in
-    let q = p.1.1.1.1 in
     record {
       table_len = omega arith;
       held_le_frags_most = p.held_le_frags_most;
       k_bound = p.k_bound;
       k_nonzero = p.k_nonzero;
-      table_value = q.0;
-      bytes_in_bounds = q.1.0;
-      off_value = q.1.1;
+      table_value = p.table_value;
+      bytes_in_bounds = p.bytes_in_bounds;
+      off_value = p.off_value;
       size_value = c.sum_long-size.ensures;
       size_in_bounds = c.if-buffer-size.false;
     }

@@ -16,9 +16,6 @@ use Rattle.reassembly_state.proofs.Chunk.{chunk-long}
 use Rattle.reassembly_ask.proofs.Sets.{run_fits, join_stored}
 use Rattle.reassembly_ordered.proofs.join_set.Goals as goal
 
--- CONV: abbrev asked : tie.After-is-complete-arg → tie.Start
--- asked c = start (put c.before.before.before.before.before)
-
 pub row_at-first-requires : goal.row_at-first-requires
 row_at-first-requires c =
     let of = state_of c.args.queue c.args.table.now c.args.pool.now in
@@ -83,20 +80,39 @@ put_fragment-requires c =
     }
 
 pub overflow_add-run : goal.overflow_add-run
-overflow_add-run c = omega (arith, stands (asked c), room (asked c))
+overflow_add-run c =
+    let of = state_of c.args.queue c.args.table.now c.args.pool.now in
+    let ok : Sound of = sound of (search rules) in
+    let full : length of.rows ≡ frags_most = rows_long frags_most c.args.table.now (omega arith) in
+    let set-at : c.args.at ≡ set_at of c.args.chunk.stream_sequence_number = search rules in
+    let set-run : c.args.run ≡ set_run of c.args.chunk.stream_sequence_number = search rules in
+    let stands : c.args.at + c.args.run ≤ count c.args.queue = omega (arith, run_fits of ok.few full c.args.chunk.stream_sequence_number, set-at, set-run) in
+    let room : (count c.args.queue < frags_most) × (c.args.queue.n_bytes + length c.args.user_data.now ≤ bytes_most) = (search rules, search rules) in
+    omega (arith, stands, room)
 
 pub is_complete-complete-requires : goal.is_complete-complete-requires
 is_complete-complete-requires c =
+    let of = state_of c.args.queue c.args.table.now c.args.pool.now in
+    let ok : Sound of = sound of (search rules) in
+    let full : length of.rows ≡ frags_most = rows_long frags_most c.args.table.now (omega arith) in
+    let set-at : c.args.at ≡ set_at of c.args.chunk.stream_sequence_number = search rules in
+    let set-run : c.args.run ≡ set_run of c.args.chunk.stream_sequence_number = search rules in
+    let stands : c.args.at + c.args.run ≤ count c.args.queue = omega (arith, run_fits of ok.few full c.args.chunk.stream_sequence_number, set-at, set-run) in
+    let room : (count c.args.queue < frags_most) × (c.args.queue.n_bytes + length c.args.user_data.now ≤ bytes_most) = (search rules, search rules) in
     record {
-      table_len = omega (arith, c.put_fragment.auto, (asked c).requires);
-      n_bound = omega (arith, stands (asked c), room (asked c));
+      table_len = omega (arith, c.put_fragment.auto, c.requires);
+      n_bound = omega (arith, stands, room);
     }
 
 pub overflow_add-grown : goal.overflow_add-grown
-overflow_add-grown c = omega (arith, room (asked c.before.before))
+overflow_add-grown c =
+    let room : (count c.args.queue < frags_most) × (c.args.queue.n_bytes + length c.args.user_data.now ≤ bytes_most) = (search rules, search rules) in
+    omega (arith, room)
 
 pub overflow_add-grown-2 : goal.overflow_add-grown-2
-overflow_add-grown-2 c = omega (arith, room (asked c.before.before.before))
+overflow_add-grown-2 c =
+    let room : (count c.args.queue < frags_most) × (c.args.queue.n_bytes + length c.args.user_data.now ≤ bytes_most) = (search rules, search rules) in
+    omega (arith, room)
 
 pub returns : goal.returns
 returns c =

@@ -60,7 +60,12 @@ unfolding fragment_of
 store_loose-grown-requires c =
     let new = fragment_of c.args.chunk c.args.user_data.now in
     let room : ( (count c.args.queue < frags_most) × (c.args.queue.n_bytes + length new.bytes ≤ bytes_most)) = c.requires.fits_if c.if-not-room.false in
-    (c.requires.table_len, (c.requires.pool_value, room))
+    record {
+      table_len = c.requires.table_len;
+      pool_value = c.requires.pool_value;
+      queue_bound = room.0;
+      user_data_bound = room.1;
+    }
 
 pub settle-requires : goal.settle-requires
 unfolding fragment_of

@@ -13,18 +13,18 @@ returns-then-chunk-2 c = rw (c.if-chunk.true, c.if-chunk-2.true)
 
 pub returns-then-chunk : goal.returns-then-chunk
 unfolding neighbours
-returns-then-chunk c =  rw (c.if-chunk.true, c.if-chunk-2.false, c.run_Up.ensures) (omega arith)
+returns-then-chunk c =  rw (c.if-chunk.true, c.if-chunk-2.false, c.run_up.ensures) (omega arith)
 
 pub returns-then-chunk-3 : goal.returns-then-chunk-3
 unfolding neighbours
-returns-then-chunk-3 c =  rw (c.if-chunk.false, c.if-chunk-3.true, c.run_Down.ensures) (omega arith)
+returns-then-chunk-3 c =  rw (c.if-chunk.false, c.if-chunk-3.true, c.run_down-down.ensures) (omega arith)
 
 pub overflow_add-result : goal.overflow_add-result
 overflow_add-result c =
     let a = c.args in
     let k = runs_fit a.queue (rows_of frags_most a.table.now) (omega arith) a.chunk.tsn in
-    rw (c.run_Down.ensures, c.run_up-up.ensures) (search rules)
+    rw (c.run_down-down.ensures, c.run_up-up.ensures) (search rules)
 
 pub returns : goal.returns
 unfolding neighbours
-returns c =  rw (c.if-chunk.false, c.if-chunk-3.false, c.run_Down.ensures, c.run_up-up.ensures)
+returns c =  rw (c.if-chunk.false, c.if-chunk-3.false, c.run_down-down.ensures, c.run_up-up.ensures)
