@@ -1,5 +1,6 @@
 // The calls of the TSN queue and of the sender's in-flight queue.
 #![tactic(auto)]
+
 pub mod flight;
 mod lists;
 mod records;

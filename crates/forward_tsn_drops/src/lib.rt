@@ -1,5 +1,6 @@
 // What the TSN queue drops for a FORWARD TSN chunk (RFC 3758 section 3.6). A new cumulative TSN at or before the cumulative one changes nothing.
 #![tactic(auto)]
+
 ghost use Rattle.std.specs.Prelude.{◌≡◌};
 ghost use Rattle.payload_model.specs.Queue as tsns;
 ghost use Rattle.payload_model.specs.Answers as dropped;

@@ -1,5 +1,6 @@
 // The blocks of a gap report: counted in a dry pass, and written to two lent lists.
 #![tactic(auto)]
+
 ghost use Rattle.std.specs.Prelude.{◌≡◌, ◌*◌, ◌≤◌, length, take};
 ghost use Rattle.wire_model.specs.BigEndian.{over};
 ghost use Rattle.table.specs.Rows.{rows_of};

@@ -1,5 +1,6 @@
 // The gap report: the runs of held TSNs above the cumulative one, as offsets of 16 bits.
 #![tactic(auto)]
+
 ghost use Rattle.std.specs.Prelude.{◌≡◌, ◌*◌, ◌≤◌, length, take};
 ghost use Rattle.table.specs.Rows.{rows_of};
 ghost use Rattle.gap_model.specs.Gap.{report, reported};

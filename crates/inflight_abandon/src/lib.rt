@@ -1,5 +1,6 @@
 // The chunks of a message, abandoned.
 #![tactic(auto)]
+
 ghost use Rattle.std.specs.Prelude.{◌≡◌};
 ghost use Rattle.payload_model.specs.Answers.{number_told};
 ghost use Rattle.inflight_model.specs.Queue.{queue_of, after, abandoned};

@@ -1,5 +1,6 @@
 // The test of an in-flight queue's counts, which every call of it starts with, and the calls that only tell a count.
 #![tactic(auto)]
+
 ghost use Rattle.std.specs.Prelude.{◌≡◌, List, ℕ, ◌*◌, length};
 ghost use Rattle.payload_model.specs.Limits.{tsns_most};
 ghost use Rattle.payload_model.specs.Answers.{flag_told, number_told};

@@ -1,5 +1,6 @@
 // What becomes of a sent chunk: acknowledged, to be sent again.
 #![tactic(auto)]
+
 ghost use Rattle.std.specs.Prelude.{◌≡◌, List, ℕ};
 ghost use Rattle.payload_model.specs.Answers.{done_told, number_told};
 ghost use Rattle.inflight_model.specs.Queue.{queue_of, after, marked_acked, marked_all};

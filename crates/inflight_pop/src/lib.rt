@@ -1,5 +1,6 @@
 // What is given: the first chunk.
 #![tactic(auto)]
+
 ghost use Rattle.std.specs.Prelude.{◌≡◌};
 ghost use Rattle.inflight_model.specs.Queue.{queue_of, after, popped};
 ghost use Rattle.inflight_model.specs.Answers.{taken_told};

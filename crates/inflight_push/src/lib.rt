@@ -1,5 +1,6 @@
 // A chunk that was sent comes into the in-flight queue.
 #![tactic(auto)]
+
 ghost use Rattle.std.specs.Prelude.{◌≡◌};
 ghost use Rattle.payload_model.specs.Queue.{row_of};
 ghost use Rattle.payload_model.specs.Answers.{done_told};

@@ -2,6 +2,7 @@
 // crates below have the calls' code: it takes and gives the counts of crate `inflight_model`, which are this crate's struct field by field.
 // A call that neither needs nor changes the numbers of messages is not lent them: its promise is for whatever numbers stand beside the records.
 #![tactic(auto)]
+
 ghost use Rattle.std.specs.Prelude.{◌≡◌, List, ℕ};
 ghost use Rattle.payload_model.specs.Queue.{row_of};
 ghost use Rattle.payload_model.specs.Answers.{flag_told, number_told, done_told};

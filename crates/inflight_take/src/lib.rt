@@ -1,5 +1,6 @@
 // What is dropped and looked at.
 #![tactic(auto)]
+
 ghost use Rattle.std.specs.Prelude.{◌≡◌};
 ghost use Rattle.payload_model.specs.Answers.{done_told};
 ghost use Rattle.inflight_model.specs.Queue.{queue_of, after, popped_up_to, got};

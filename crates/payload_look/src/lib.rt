@@ -1,5 +1,6 @@
 // What is held: a chunk by its TSN, and the gap report. These calls change nothing.
 #![tactic(auto)]
+
 ghost use Rattle.std.specs.Prelude.{◌≡◌};
 ghost use Rattle.payload_model.specs.Queue.{queue_of, got};
 ghost use Rattle.payload_model.specs.GapCall.{lists, gap_report};

@@ -1,5 +1,6 @@
 // What the calls of the TSN queue are made of: the records that stay, and the log.
 #![tactic(auto)]
+
 ghost use Rattle.std.specs.Prelude.{◌≡◌, List, ℕ, ◌*◌, ◌≤◌, length, take};
 ghost use Rattle.wire_model.specs.BigEndian.{over};
 ghost use Rattle.table.specs.Rows.{rows_of, kept};

@@ -1,5 +1,6 @@
 // The first chunk, removed and given.
 #![tactic(auto)]
+
 ghost use Rattle.std.specs.Prelude.{◌≡◌};
 ghost use Rattle.payload_model.specs.Queue.{queue_of, after, popped};
 ghost use Rattle.payload_model.specs.Answers.{taken_told};

@@ -1,5 +1,6 @@
 // A TSN that comes, pushed.
 #![tactic(auto)]
+
 ghost use Rattle.std.specs.Prelude.{◌≡◌, false, List, ℕ};
 ghost use Rattle.wire_model.specs.Refusal.{none, refuse, says};
 ghost use Rattle.payload_model.specs.Queue.{queue_of, after, row_of, logged, pushed};

@@ -1,6 +1,7 @@
 // The TSN queue: which TSNs came, in which order they stand, and which came twice. The crates below have the calls' code: it takes and gives
 // the counts of crate `payload_model`, which are this crate's struct field by field.
 #![tactic(auto)]
+
 ghost use Rattle.std.specs.Prelude.{◌≡◌};
 ghost use Rattle.payload_model.specs.Queue.{after, row_of, pushed, can_push, popped, popped_up_to, popped_duplicates, got, contains_stream, counted, is_empty, num_bytes, last_tsn};
 ghost use Rattle.payload_model.specs.GapCall.{lists, gap_report};

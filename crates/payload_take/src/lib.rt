@@ -1,5 +1,6 @@
 // What is dropped or handed out all at once: TSNs up to one, and the log of duplicates.
 #![tactic(auto)]
+
 ghost use Rattle.std.specs.Prelude.{◌≡◌};
 ghost use Rattle.payload_model.specs.Queue.{queue_of, after, popped_up_to, popped_duplicates};
 ghost use Rattle.payload_model.specs.Answers.{done_told, handed_told};

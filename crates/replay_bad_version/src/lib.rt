@@ -1,5 +1,6 @@
 // The line that a replay writes for a file with another version.
 #![tactic(auto)]
+
 ghost use Rattle.std.specs.Prelude.{◌≤◌, length};
 ghost use Rattle.replay_words.specs.Behind.{Put};
 ghost use Rattle.replay_words.specs.Lines.{bad_version};

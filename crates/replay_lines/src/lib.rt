@@ -1,5 +1,6 @@
 // The lines that a replay writes, put at the front of a lent buffer: one for a record, and one for the totals.
 #![tactic(auto)]
+
 ghost use Rattle.std.specs.Prelude.{◌≤◌, length};
 ghost use Rattle.payload_model.specs.Answers.{flag_told};
 ghost use Rattle.replay_words.specs.Behind.{Put};

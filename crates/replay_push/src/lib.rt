@@ -1,5 +1,6 @@
 // A captured chunk, read as DATA and pushed to a TSN queue.
 #![tactic(auto)]
+
 ghost use Rattle.std.specs.Prelude.{◌≡◌};
 ghost use Rattle.wire_model.specs.Refusal.{none};
 ghost use Rattle.payload_model.specs.Queue.{after};

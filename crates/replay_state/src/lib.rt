@@ -1,5 +1,6 @@
 // A replay between its records: as it starts, and the line of what it counted.
 #![tactic(auto)]
+
 ghost use Rattle.std.specs.Prelude.{◌≡◌};
 ghost use Rattle.replay_lines.specs.Behind.{Put};
 ghost use Rattle.replay_lines.specs.Lines.{total_line};

@@ -1,5 +1,6 @@
 // A replay of captured chunks, record by record: each call is lent what is left of the file, and puts what is to be written into a lent line.
 #![tactic(auto)]
+
 ghost use Rattle.std.specs.Prelude.{◌≡◌};
 ghost use Rattle.replay_lines.specs.Behind.{Put};
 ghost use Rattle.replay_lines.specs.Lines.{bad_version};

@@ -1,5 +1,6 @@
 // What a record makes of a replay: its line, and the replay behind it.
 #![tactic(auto)]
+
 ghost use Rattle.std.specs.Prelude.{◌≡◌, ℕ, List};
 ghost use Rattle.payload_model.specs.Answers.{flag_told};
 ghost use Rattle.replay_state.specs.State.{state_of};

@@ -1,6 +1,7 @@
 // The TSN queue's answers, taken apart for C: one value goes through its reference, a chunk's come back by value; 0 and false beside a refusal, and the result is -1 or
 // the refusal's number.
 #![tactic(auto)]
+
 ghost use Rattle.std.specs.Prelude.{◌≡◌};
 ghost use Rattle.payload_model.specs.Queue.{nothing};
 ghost use Rattle.payload_model.specs.Answers.{flag_told, number_told, taken_told};

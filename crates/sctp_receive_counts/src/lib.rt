@@ -1,5 +1,6 @@
 // The TSN queue's counts, out of the fields that C keeps and back into them, and the log that C keeps: a TSN noted in it.
 #![tactic(auto)]
+
 ghost use Rattle.std.specs.Prelude.{◌≡◌};
 ghost use Rattle.payload_model.specs.Log.{noted};
 ghost use Rattle.payload_model.specs.Queue.{zeros};

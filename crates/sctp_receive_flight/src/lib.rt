@@ -1,5 +1,6 @@
 // What the C calls of the in-flight queue share: the answer that a call was done: -1 or the refusal's number.
 #![tactic(auto)]
+
 ghost use Rattle.std.specs.Prelude.{◌≡◌};
 ghost use Rattle.payload_model.specs.Answers.{done_told};
 ghost use Rattle.sctp_receive_result.specs.Result.{back, done};

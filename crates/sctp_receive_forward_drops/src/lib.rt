@@ -1,5 +1,6 @@
 // What the C call is made of that applies a FORWARD TSN chunk to the TSN queue. The result is -1 or the refusal's number.
 #![tactic(auto)]
+
 ghost use Rattle.std.specs.Prelude.{◌≡◌};
 ghost use Rattle.payload_model.specs.Queue as tsns;
 ghost use Rattle.forward_tsn_drops.specs.Drops.{applied_to_tsns};

@@ -1,5 +1,6 @@
 // What the C call that pushes to the in-flight queue is made of.
 #![tactic(auto)]
+
 ghost use Rattle.std.specs.Prelude.{◌≡◌};
 ghost use Rattle.payload_model.specs.Queue.{row_of};
 ghost use Rattle.inflight_model.specs.Queue.{after, pushed_no_check};

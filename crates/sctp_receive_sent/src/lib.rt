@@ -1,5 +1,6 @@
 // A chunk of the in-flight queue, taken apart for C: 0 and false beside a refusal and beside nothing, and the result is -1 or the refusal's number.
 #![tactic(auto)]
+
 ghost use Rattle.std.specs.Prelude.{◌≡◌};
 ghost use Rattle.inflight_model.specs.Answers.{taken_told};
 ghost use Rattle.inflight_model.specs.Queue.{nothing_sent};

@@ -1,5 +1,6 @@
 // What the C call that pushes to the TSN queue is made of.
 #![tactic(auto)]
+
 ghost use Rattle.std.specs.Prelude.{◌≡◌};
 ghost use Rattle.payload_model.specs.Queue.{after, row_of, pushed};
 ghost use Rattle.sctp_receive_result.specs.Result.{told};

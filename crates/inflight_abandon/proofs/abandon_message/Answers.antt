@@ -13,7 +13,7 @@ use Rattle.inflight_abandon.proofs.abandon_message.Goals as goal
 
 pub returns-then-unsound : goal.returns-then-unsound
 unfolding abandoned
-returns-then-unsound c =  rw (sym (c.unsound.ensures c.args.messages.now) ∙ c.if-unsound.true)
+returns-then-unsound c = rw (sym (c.unsound.ensures c.args.messages.now) ∙ c.if-unsound.true)
 
 pub abandon-requires : goal.abandon-requires
 abandon-requires c =

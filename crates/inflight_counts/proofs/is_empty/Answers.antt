@@ -9,4 +9,4 @@ returns-then-unsound c ms = rw (sym (c.unsound.ensures ms) ∙ c.if-unsound.true
 
 pub returns : goal.returns
 unfolding is_empty
-returns c ms =  rw (sym (c.unsound.ensures ms) ∙ c.if-unsound.false)
+returns c ms = rw (sym (c.unsound.ensures ms) ∙ c.if-unsound.false)

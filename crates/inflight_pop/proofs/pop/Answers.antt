@@ -14,7 +14,7 @@ use Rattle.inflight_pop.proofs.pop.Goals as goal
 
 pub returns-then-unsound : goal.returns-then-unsound
 unfolding popped
-returns-then-unsound c =  rw (sym (c.unsound.ensures c.args.messages.now) ∙ c.if-unsound.true)
+returns-then-unsound c = rw (sym (c.unsound.ensures c.args.messages.now) ∙ c.if-unsound.true)
 
 pub returns-then-count-eq0 : goal.returns-then-count-eq0
 returns-then-count-eq0 c =

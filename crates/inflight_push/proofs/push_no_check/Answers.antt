@@ -16,7 +16,7 @@ use Rattle.inflight_push.proofs.push_no_check.Goals as goal
 
 pub returns-then-unsound : goal.returns-then-unsound
 unfolding pushed_no_check
-returns-then-unsound c =  rw (sym (c.unsound.ensures c.args.messages.now) ∙ c.if-unsound.true)
+returns-then-unsound c = rw (sym (c.unsound.ensures c.args.messages.now) ∙ c.if-unsound.true)
 
 pub has_tsn-requires : goal.has_tsn-requires
 has_tsn-requires c =

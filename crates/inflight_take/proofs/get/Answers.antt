@@ -15,7 +15,7 @@ use Rattle.inflight_take.proofs.get.Goals as goal
 
 pub returns-then-unsound : goal.returns-then-unsound
 unfolding got
-returns-then-unsound c =  rw (sym (c.unsound.ensures c.args.messages.now) ∙ c.if-unsound.true)
+returns-then-unsound c = rw (sym (c.unsound.ensures c.args.messages.now) ∙ c.if-unsound.true)
 
 pub find_tsn-at-requires : goal.find_tsn-at-requires
 find_tsn-at-requires c =

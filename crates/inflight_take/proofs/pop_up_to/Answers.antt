@@ -13,7 +13,7 @@ use Rattle.inflight_take.proofs.pop_up_to.Goals as goal
 
 pub returns-then-unsound : goal.returns-then-unsound
 unfolding popped_up_to
-returns-then-unsound c =  rw (sym (c.unsound.ensures c.args.messages.now) ∙ c.if-unsound.true)
+returns-then-unsound c = rw (sym (c.unsound.ensures c.args.messages.now) ∙ c.if-unsound.true)
 
 pub keep_numbers-requires : goal.keep_numbers-requires
 keep_numbers-requires c =

@@ -9,7 +9,7 @@ unfolding popped_duplicates
 returns-then-unsound c = rw (sym c.unsound.ensures ∙ c.if-unsound.true)
 
 pub handed-tsns-requires : goal.handed-tsns-requires
-handed-tsns-requires c =  (sound _ (sym c.unsound.ensures ∙ c.if-unsound.false)).logs
+handed-tsns-requires c = (sound _ (sym c.unsound.ensures ∙ c.if-unsound.false)).logs
 
 pub returns : goal.returns
 unfolding popped_duplicates
