@@ -1,7 +1,6 @@
 -- `gap_blocks::count_blocks` meets its contract: after i turns it has counted the blocks of the first i TSNs (`Seen`).
 use mathlib.Core.List.{[]}
 use mathlib.Core.Path.{sym, ap, ◌∙◌}
-use Prim.Native.Nat.{◌-◌}
 use native.Mathlib.Omega.{arith}
 use lib.ListN.{length}
 use Rattle.gap_model.proofs.Walk.{seen_none, seen_skip, seen_open, seen_last, seen_grow, seen_all, low, high}

@@ -16,33 +16,30 @@ use Rattle.inflight_heads.proofs.abandon.Goals as goal
 
 pub loop-i-init : goal.loop-i-init
 loop-i-init c =
-    let s = c.before.before in
-    let a = s.args in
+    let a = c.args in
     let rows = rows_of tsns_most a.table.now in
-    let e = rows_long tsns_most a.table.now s.requires.table_len in
+    let e = rows_long tsns_most a.table.now c.requires.table_len in
     let ms = a.messages.now in
     let r = length-take-le a.n rows (omega arith) in
     let l : length (abandoned_among a.message (take a.n rows) (take a.n ms)) ≡ a.n = abandoned-long a.message (take a.n rows) (take a.n ms) (length-take-le a.n ms (omega arith) ∙ sym r) ∙ r in
-    (s.requires.table_len, l, pass_none rows (abandoned_among a.message (take a.n rows) (take a.n ms)) (omega arith))
+    (c.requires.table_len, l, pass_none rows (abandoned_among a.message (take a.n rows) (take a.n ms)) (omega arith))
 
 pub loop-i-preserved : goal.loop-i-preserved
 loop-i-preserved c =
-    let l = c.before.before.before.before in
-    let s = l.before.before.before in
-    let a = s.args in
+    let a = c.args in
     let rows = rows_of tsns_most a.table.now in
-    let i = l.loop-i.i in
-    let n = l.loop-i.invariant.1 in
-    let e = rows_long tsns_most a.table.now s.requires.table_len in
+    let i = c.loop-i.i in
+    let n = c.loop-i.invariant.1 in
+    let e = rows_long tsns_most a.table.now c.requires.table_len in
     let ms = a.messages.now in
     let r = length-take-le a.n rows (omega arith) in
     let row = abandoned-at a.message (take a.n rows) (take a.n ms) i (length-take-le a.n ms (omega arith) ∙ sym r) (omega arith) in
     let at = rw (get_or-take a.n rows i blank (omega arith), get_or-take a.n ms i 0 (omega arith)) at row in
-    let head = c.abandoned_if.ensures ∙ ap (λ h. cond (eqb (get_or ms i 0) a.message) (abandoned_head h) h) (head_read tsns_most l.loop-i.table l.loop-i.invariant.0 l.loop-i.invariant.2 (omega arith) (omega arith)) in (
-      simp length-set l.loop-i.invariant.0,
+    let head = c.abandoned_if.ensures ∙ ap (λ h. cond (eqb (get_or ms i 0) a.message) (abandoned_head h) h) (head_read tsns_most c.loop-i.table c.loop-i.invariant.0 c.loop-i.invariant.2 (omega arith) (omega arith)) in (
+      simp length-set c.loop-i.invariant.0,
       n,
-      head-turn tsns_most l.loop-i.table l.loop-i.invariant.0 l.loop-i.invariant.2 (omega arith) (omega arith) c.abandoned_if.result (ap (λ h. with_head h (get_or rows i blank)) head ∙ sym at),
+      head-turn tsns_most c.loop-i.table c.loop-i.invariant.0 c.loop-i.invariant.2 (omega arith) (omega arith) c.abandoned_if.result (ap (λ h. with_head h (get_or rows i blank)) head ∙ sym at),
     )
 
 pub returns : goal.returns
-returns c = let l = c.before in pass_done l.loop-i.invariant.2 (omega (arith, l.loop-i.invariant.1, l.loop-i.invariant.2.within))
+returns c = pass_done c.loop-i.invariant.2 (omega (arith, c.loop-i.invariant.1, c.loop-i.invariant.2.within))

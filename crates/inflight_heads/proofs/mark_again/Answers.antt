@@ -15,29 +15,26 @@ use Rattle.inflight_heads.proofs.mark_again.Goals as goal
 
 pub loop-i-init : goal.loop-i-init
 loop-i-init c =
-    let s = c.before in
-    let a = s.args in
+    let a = c.args in
     let rows = rows_of tsns_most a.table.now in
-    let e = rows_long tsns_most a.table.now s.requires.table_len in
+    let e = rows_long tsns_most a.table.now c.requires.table_len in
     let l : length (map again_row (take a.n rows)) ≡ a.n = length-map (take a.n rows) again_row ∙ length-take-le a.n rows (omega arith) in
-    (s.requires.table_len, l, pass_none rows (map again_row (take a.n rows)) (omega arith))
+    (c.requires.table_len, l, pass_none rows (map again_row (take a.n rows)) (omega arith))
 
 pub loop-i-preserved : goal.loop-i-preserved
 loop-i-preserved c =
-    let l = c.before.before.before in
-    let s = l.before.before in
-    let a = s.args in
+    let a = c.args in
     let rows = rows_of tsns_most a.table.now in
-    let i = l.loop-i.i in
-    let n = l.loop-i.invariant.1 in
-    let e = rows_long tsns_most a.table.now s.requires.table_len in
+    let i = c.loop-i.i in
+    let n = c.loop-i.invariant.1 in
+    let e = rows_long tsns_most a.table.now c.requires.table_len in
     let row : get_or (map again_row (take a.n rows)) i blank ≡ again_row (get_or rows i blank) =
     again-at (take a.n rows) i (rw (length-take-le a.n rows (omega arith)) (omega arith)) ∙ ap again_row (get_or-take a.n rows i blank (omega arith)) in
-    let head = c.again_head.ensures ∙ ap again_head (head_read tsns_most l.loop-i.table l.loop-i.invariant.0 l.loop-i.invariant.2 (omega arith) (omega arith)) in (
-      simp length-set l.loop-i.invariant.0,
+    let head = c.again_head.ensures ∙ ap again_head (head_read tsns_most c.loop-i.table c.loop-i.invariant.0 c.loop-i.invariant.2 (omega arith) (omega arith)) in (
+      simp length-set c.loop-i.invariant.0,
       n,
-      head-turn tsns_most l.loop-i.table l.loop-i.invariant.0 l.loop-i.invariant.2 (omega arith) (omega arith) c.again_head.result (ap (λ h. with_head h (get_or rows i blank)) head ∙ sym row),
+      head-turn tsns_most c.loop-i.table c.loop-i.invariant.0 c.loop-i.invariant.2 (omega arith) (omega arith) c.again_head.result (ap (λ h. with_head h (get_or rows i blank)) head ∙ sym row),
     )
 
 pub returns : goal.returns
-returns c = let l = c.before in pass_done l.loop-i.invariant.2 (omega (arith, l.loop-i.invariant.1, l.loop-i.invariant.2.within))
+returns c = pass_done c.loop-i.invariant.2 (omega (arith, c.loop-i.invariant.1, c.loop-i.invariant.2.within))

@@ -16,7 +16,7 @@ overflow_sub-result c =
     omega arith
 
 pub returns-in-Refused : goal.returns-in-Refused
-returns-in-Refused c =
+returns-in-Refused c e =
     let raw = c.args.raw.now in
     let f = header-there raw (λ i. (c.type_inv.raw i).fits) in
     let no = told-refused (data_checks (length raw) (front_header raw)) (front_header raw) c.header-any.result (c.header-any.ensures.result_value f) c.in-Refused.is in
@@ -24,7 +24,7 @@ returns-in-Refused c =
     absurd (omega arith)
 
 pub returns-in-Header : goal.returns-in-Header
-returns-in-Header c =
+returns-in-Header c e =
     let raw = c.args.raw.now in
     let f = header-there raw (λ i. (c.type_inv.raw i).fits) in
     let t = told-taken (data_checks (length raw) (front_header raw)) (front_header raw) c.header-any.result (c.header-any.ensures.result_value f) c.in-Header.is in

@@ -9,5 +9,5 @@ pub returns : goal.returns
 returns c =
     let a = c.args in
     chunk-left a.taken (state_of a.replay a.table.now) a.raw.now a.line.now (flag_told c.push_record-pushed.result.answer)
-    (queue_of c.push_record-pushed.result.queue c.push_record-pushed.new.1.0)
+    (queue_of c.push_record-pushed.result.queue c.push_record-pushed.new.table)
     c.push_record-pushed.ensures c.put_record-written.ensures c.kind_of.ensures c.counted-counters.ensures c.wrapping_add_u64-number.ensures.value

@@ -1,9 +1,0 @@
--- `receive_image::main` is safe, and ends: the measure is what is left of the arrivals. Assumes nothing.
-use Rattle.std.proofs.Common.{◌-◌}
-use Rattle.receive_image.proofs.main.Given as goal
-
-abbrev pub invariant-loop-i : goal.invariant-loop-i
-invariant-loop-i l = Unit {0}
-
-abbrev pub decreases-loop-i : goal.decreases-loop-i
-decreases-loop-i l = 7 - l.i

@@ -1,9 +1,0 @@
--- `receive_image::show::gaps` is safe, and ends: the measure is what is left of the blocks. Assumes nothing.
-use Rattle.std.proofs.Common.{◌-◌, length}
-use Rattle.receive_image.proofs.show.gaps.Given as goal
-
-abbrev pub invariant-loop-i : goal.invariant-loop-i
-invariant-loop-i l = Unit {0}
-
-abbrev pub decreases-loop-i : goal.decreases-loop-i
-decreases-loop-i l = length l.starts - l.?
