@@ -2,4 +2,4 @@
 // that its proofs share (proofs/), and what tells of a skip.
 #![tactic(auto)]
 
-pub mod fragments;
+pub mod fragment_answers;
