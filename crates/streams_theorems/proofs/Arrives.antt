@@ -56,13 +56,13 @@ record Walked (s : one.State) (acts : List Act) : Type 0 where
   answered : arrival.Unrefused s (asked acts) → Unrefused (answers_alone s acts)
 
 walk : {s : one.State} {q : Queue} → bridge.Holds s q → (acts : List Act) → NoSkip acts → Each Fine q acts → Walked s acts
-walk h [] n e = record { ran-is = refl; roomy = tt; long = tt; out-is = refl; answered = λ u. tt }
-walk {s} {q} h (Push c ∷ acts) n e =
+walk {s = s} h [] n e = record { ran-is = refl; roomy = tt; long = tt; out-is = refl; answered = λ u. tt }
+walk {s = s} {q = q} h (Push c ∷ acts) n e =
     let next = subst (bridge.Holds (left_alone s (Push c))) (fine_free q (Push c) e.0).leaves (alone_holds h (Push c)) in
-    let w = walk next acts n e.1 in
+    let w = walk {s = left_alone s (Push c)} next acts n e.1 in
     record { ran-is = w.ran-is; roomy = (rw h.seen e.0, w.roomy); long = w.long; out-is = w.out-is; answered = λ u. (u.0, w.answered u.1) }
-walk {s} {q} h (Take b ∷ acts) n e =
-    let w = walk (alone_holds h (Take b)) acts n e.1 in
+walk {s = s} {q = q} h (Take b ∷ acts) n e =
+    let w = walk {s = left_alone s (Take b)} (alone_holds h (Take b)) acts n e.1 in
     record {
       ran-is = w.ran-is;
       roomy = w.roomy;

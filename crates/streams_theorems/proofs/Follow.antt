@@ -95,8 +95,8 @@ pub record Followed (n k : ℕ) (M : Queue → Act → Type 0) (s : State) (q : 
 module _ (n k : ℕ) (below : k < streams_most) (P : State → Act → Type 0) (M : Queue → Act → Type 0)
     (says : (s : State) (qs : List Queue) → Holds n s qs → Drawn qs → (a : Act) → P s a → Free (room_of (room_among qs k) a) (get_or qs k no_queue) a × M (get_or qs k no_queue) a) where
   pub follow : {s : State} {qs : List Queue} → Holds n s qs → Drawn qs → (calls : List Call) → EachOn k P s calls → Followed n k M s (get_or qs k no_queue) calls
-  follow {s} {qs} h d [] e = record { answers = refl; each = tt; queues = qs; holds = h; is = refl }
-  follow {s} {qs} h d (c ∷ cs) e = go (follow (call_holds h c.stream c.act) (call_drawn h d c.stream c.act) cs e.1) (eqb c.stream k) refl
+  follow {s = s} {qs = qs} h d [] e = record { answers = refl; each = tt; queues = qs; holds = h; is = refl }
+  follow {s = s} {qs = qs} h d (c ∷ cs) e = go (follow {s = left s c.stream c.act} (call_holds h c.stream c.act) (call_drawn h d c.stream c.act) cs e.1) (eqb c.stream k) refl
     where
       go : Followed n k M (left s c.stream c.act) (get_or (queues qs c.stream c.act) k no_queue) cs → (b : Bool) → eqb c.stream k ≡ b → Followed n k M s (get_or qs k no_queue) (c ∷ cs)
       go rest true t =
@@ -118,8 +118,8 @@ module _ (n k : ℕ) (below : k < streams_most) (P : State → Act → Type 0) (
 module _ (n k : ℕ) (below : k < streams_most) (P : State → Act → Type 0) (M : Queue → Act → Type 0)
     (says : (s : State) (qs : List Queue) → Holds n s qs → Drawn qs → (a : Act) → M (get_or qs k no_queue) a → Free (room_of (room_among qs k) a) (get_or qs k no_queue) a × P s a) where
   pub lower : {s : State} {qs : List Queue} → Holds n s qs → Drawn qs → (calls : List Call) → Each M (get_or qs k no_queue) (calls_on k calls) → EachOn k P s calls
-  lower h d [] e = tt
-  lower {s} {qs} h d (c ∷ cs) e = go (lower (call_holds h c.stream c.act) (call_drawn h d c.stream c.act) cs) (eqb c.stream k) refl
+  lower {s = s} h d [] e = tt
+  lower {s = s} {qs = qs} h d (c ∷ cs) e = go (lower {s = left s c.stream c.act} (call_holds h c.stream c.act) (call_drawn h d c.stream c.act) cs) (eqb c.stream k) refl
     where
       go : (Each M (get_or (queues qs c.stream c.act) k no_queue) (calls_on k cs) → EachOn k P (left s c.stream c.act) cs)
           → (b : Bool) → eqb c.stream k ≡ b → EachOn k P s (c ∷ cs)

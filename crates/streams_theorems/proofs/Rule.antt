@@ -12,7 +12,7 @@ use Rattle.streams_model.specs.Room.{room_among}
 use Rattle.streams_model.specs.State.{State, unsound, view, no_queue, own, After, refused, pushed}
 use Rattle.streams_model.proofs.Laws.{held-view, split-length}
 use Rattle.arrival.specs.Calls.{Chunk}
-use Rattle.streams_theorems.specs.Runs.{Push, Call, refusal_of, ran}
+use Rattle.streams_theorems.specs.Runs.{Push, Call, refusal_of, ran, left}
 use Rattle.streams_theorems.specs.Rule.{frag_of, Full, Enough, Drawn, Sure, Reserved, Before_all, No_stream, Sound_stays}
 use Rattle.streams_theorems.proofs.Room.{no_room, exceeds_no_room, all-frags, all-bytes, own-frags, own-bytes, room_alone}
 use Rattle.streams_theorems.proofs.Acts.{pushes, full, alike, full_exactly}
@@ -66,8 +66,8 @@ sure_of {n} {s} {qs} h d =
     }
 
 ran_sure : {n : ℕ} {s : State} {qs : List Queue} → Holds n s qs → Drawn qs → (calls : List Call) → Sure (ran s calls)
-ran_sure h d [] = sure_of h d
-ran_sure h d (c ∷ cs) = ran_sure (call_holds h c.stream c.act) (call_drawn h d c.stream c.act) cs
+ran_sure {n = n} {s = s} {qs = qs} h d [] = sure_of h d
+ran_sure {n = n} {s = s} {qs = qs} h d (c ∷ cs) = ran_sure {s = left s c.stream c.act} (call_holds h c.stream c.act) (call_drawn h d c.stream c.act) cs
 
 pub reserved : Reserved
 reserved max ws pool lent calls = ran_sure (fresh_holds max ws pool lent.words lent.bytes) (fresh-drawn max) calls

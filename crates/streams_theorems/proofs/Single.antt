@@ -72,7 +72,7 @@ pub record Followed (s : State) (q : Queue) (acts : List Act) : Type 0 where
   pub holds : Holds (ran_alone s acts) (ran_on q acts)
 
 pub follow : {s : State} {q : Queue} → Holds s q → (acts : List Act) → Each FreeAlone q acts → Followed s q acts
-follow h [] e = record { answers = refl; holds = h }
-follow {s} {q} h (a ∷ acts) e =
-    let w = follow (subst (Holds (left_alone s a)) e.0.leaves (alone_holds h a)) acts e.1 in
+follow {s = s} h [] e = record { answers = refl; holds = h }
+follow {s = s} {q = q} h (a ∷ acts) e =
+    let w = follow {s = left_alone s a} (subst (Holds (left_alone s a)) e.0.leaves (alone_holds h a)) acts e.1 in
     record { answers = rw (alone_told h a, e.0.tells, w.answers); holds = w.holds }
