@@ -8,6 +8,7 @@ ghost use Rattle.sctp_receive_result.specs.Result.{back, done};
 use inflight_queue::Done;
 
 // That it was done.
+#[tactic(auto, using(sctp_receive_result::proofs::Codes::back_refuse))]
 pub fn done(answer: Done) -> i32
     ensures { done (back result) ≡ done_told answer }
 {
