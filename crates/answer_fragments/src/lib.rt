@@ -1,5 +1,6 @@
 // The calls of the reassembly queue and of the message in hand.
 #![tactic(auto)]
+
 mod calls;
 mod hand;
 pub mod kept;

@@ -1,5 +1,6 @@
 // Arrival order does not matter: a theorem over whole runs of the reassembly queue's calls. It stands in specs/ and proofs/.
 #![tactic(auto)]
+
 pub fn stated() -> bool {
     true
 }

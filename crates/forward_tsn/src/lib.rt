@@ -1,6 +1,7 @@
 // Applying a FORWARD TSN chunk (RFC 3758 section 3.6) to a stream and to the TSN queue: its new cumulative TSN, and the part that its streams
 // and SSNs are. A new cumulative TSN at or before the cumulative one changes nothing.
 #![tactic(auto)]
+
 ghost use Rattle.std.specs.Prelude.{◌≡◌};
 ghost use Rattle.reassembly_state.specs.State as stream;
 ghost use Rattle.reassembly_state.specs.Answers as done;

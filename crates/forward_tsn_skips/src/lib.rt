@@ -1,5 +1,6 @@
 // The ordered skips of a FORWARD TSN chunk (RFC 3758 section 3.6): one for each pair of a part that names the stream.
 #![tactic(auto)]
+
 ghost use Rattle.std.specs.Prelude.{◌≡◌, ◌/◌, ◌<◌, length};
 ghost use Rattle.chunk_forward_tsn.specs.Layout.{pair};
 ghost use Rattle.chunk_forward_tsn.specs.ForwardTsn.{PairFront};

@@ -1,6 +1,6 @@
 -- Ordered sets: the fragments of one SSN, which stand side by side.
 -- Assumes nothing.
-use Rattle.std.specs.Prelude.{ℕ, Bool, true, false, cond, not, ◌&&◌, List, [], ◌∷◌, ◌++◌, eqb}
+use Rattle.std.specs.Prelude.{ℕ, Bool, false, cond, not, ◌&&◌, List, [], ◌∷◌, ◌++◌, eqb}
 use Rattle.serial_model.specs.Serial.{next, at_or_before}
 use Rattle.fragments.specs.Frag.{Frag, begins, ends, ssn_of, has_ssn, tsn_before, ssn_before}
 use Rattle.fragments.specs.Words.{any, while, past, placed, concat}

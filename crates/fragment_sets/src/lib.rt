@@ -1,5 +1,6 @@
 // Passes over the records of ordered sets: `from` and n are a segment of the table's rows.
 #![tactic(auto)]
+
 ghost use Rattle.std.specs.Prelude.{◌≡◌, map, ◌+◌, ◌*◌, ◌≤◌, length, take, drop};
 ghost use Rattle.table.specs.Rows.{rows_of, some, ahead_of, up_to_last};
 ghost use Rattle.fragments.specs.Frag.{bare, of_row, has_ssn, ssn_before, ends};

@@ -17,6 +17,7 @@ pub enum PayloadProtocolIdentifier {
 
 impl PayloadProtocolIdentifier {
     // The name of a number; Unknown where it has none.
+    #[tactic(auto, unfolding(crate::specs::Identifier::identifier_name))]
     pub fn from_u32(v: u32) -> Self
         ensures { result ≡ identifier_name v }
     {

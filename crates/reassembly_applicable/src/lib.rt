@@ -1,5 +1,6 @@
 // How far an ordered skip that is held over a stream reset applies by now.
 #![tactic(auto)]
+
 ghost use Rattle.std.specs.Prelude.{◌≡◌, List, ℕ, ◌*◌, ◌≤◌, length};
 ghost use Rattle.wire_model.specs.Refusal.{none, says};
 ghost use Rattle.reassembly_state.specs.Limits.{frags_most};

@@ -1,5 +1,6 @@
 // An ordered skip held over a stream reset: it drops what the cumulative point reaches, and carries the expected SSN no further than that.
 #![tactic(auto)]
+
 ghost use Rattle.std.specs.Prelude.{◌≡◌, false, ◌*◌, length};
 ghost use Rattle.reassembly_state.specs.Limits.{frags_most};
 ghost use Rattle.reassembly_state.specs.Answers.{done_told};

@@ -1,5 +1,6 @@
 // Incomplete ordered sets up to an SSN, dropped.
 #![tactic(auto)]
+
 ghost use Rattle.std.specs.Prelude.{◌≡◌, false, ◌+◌, ◌*◌, ◌≤◌, ◌<◌, map, length, take, drop};
 ghost use Rattle.table.specs.Rows.{rows_of};
 ghost use Rattle.fragments.specs.Frag.{bare};

@@ -1,5 +1,6 @@
 // Skips of any queue: incomplete ordered sets up to an SSN, and loose unordered fragments up to a TSN, dropped of a sound one.
 #![tactic(auto)]
+
 ghost use Rattle.std.specs.Prelude.{◌≡◌};
 ghost use Rattle.reassembly_state.specs.Answers.{done_told};
 ghost use Rattle.reassembly_state.specs.State.{state_of, after, forward_ordered, forward_unordered};

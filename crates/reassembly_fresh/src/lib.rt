@@ -1,5 +1,6 @@
 // The counts that a reassembly queue starts from.
 #![tactic(auto)]
+
 ghost use Rattle.std.specs.Prelude.{◌≡◌};
 
 use reassembly_state::Counts;

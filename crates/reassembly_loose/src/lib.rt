@@ -1,5 +1,6 @@
 // A loose unordered fragment stored in a sound queue, and the scan for a whole message.
 #![tactic(auto)]
+
 ghost use Rattle.std.specs.Prelude.{◌≡◌, false, ◌+◌, ◌*◌, ◌≤◌, ◌<◌, length};
 ghost use Rattle.reassembly_state.specs.Limits.{frags_most, bytes_most};
 ghost use Rattle.chunks.specs.Message.{flag_told};

@@ -1,5 +1,6 @@
 // A message taken out from among the held fragments, where the lent buffer has room for it.
 #![tactic(auto)]
+
 ghost use Rattle.std.specs.Prelude.{◌≡◌, ◌+◌, ◌*◌, ◌≤◌, ◌<◌, length, take};
 ghost use Rattle.table.specs.Rows.{rows_of, total};
 ghost use Rattle.fragments.specs.Frag.{long_length};

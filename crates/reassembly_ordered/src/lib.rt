@@ -1,5 +1,6 @@
 // An ordered chunk of the queue's own stream, pushed into a sound queue.
 #![tactic(auto)]
+
 ghost use Rattle.std.specs.Prelude.{◌≡◌, false, ◌+◌, ◌*◌, ◌≤◌, ◌<◌, length};
 ghost use Rattle.reassembly_state.specs.Limits.{frags_most, bytes_most};
 ghost use Rattle.chunks.specs.Message.{flag_told};

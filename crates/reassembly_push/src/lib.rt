@@ -1,5 +1,6 @@
 // Which way a push goes.
 #![tactic(auto)]
+
 ghost use Rattle.std.specs.Prelude.{◌≡◌};
 ghost use Rattle.chunks.specs.Message.{flag_told};
 ghost use Rattle.reassembly_state.specs.State.{state_of, after, pushed};

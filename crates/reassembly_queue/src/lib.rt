@@ -1,6 +1,7 @@
 // Fragments to messages, for one stream. What is taken is a message in hand (crate chunks). The crates below have the calls' code: it takes
 // and gives the counts of crate `reassembly_state`, which are this crate's struct field by field.
 #![tactic(auto)]
+
 ghost use Rattle.std.specs.Prelude.{◌≡◌};
 ghost use Rattle.chunks.specs.Message.{flag_told, number_told};
 ghost use Rattle.reassembly_state.specs.State.{after, pushed, is_readable, reads, read, forward_ordered, forward_unordered, num_bytes};

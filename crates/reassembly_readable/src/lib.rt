@@ -1,5 +1,6 @@
 // Whether a message is there to be taken.
 #![tactic(auto)]
+
 ghost use Rattle.std.specs.Prelude.{◌≡◌};
 ghost use Rattle.chunks.specs.Message.{flag_told};
 ghost use Rattle.reassembly_state.specs.State.{state_of, is_readable};

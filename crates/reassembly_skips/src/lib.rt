@@ -1,5 +1,6 @@
 // Skips of a sound queue: incomplete ordered sets up to an SSN, and loose unordered fragments up to a TSN, dropped.
 #![tactic(auto)]
+
 ghost use Rattle.std.specs.Prelude.{◌≡◌, false, ◌*◌, length};
 ghost use Rattle.reassembly_state.specs.Limits.{frags_most};
 ghost use Rattle.reassembly_state.specs.Model.{skip_ordered, skip_unordered};

@@ -15,7 +15,7 @@ use Rattle.fragments.specs.Words.{size}
 use Rattle.fragments.specs.Pool.{cut, lay_rows, lay_bytes}
 use Rattle.fragments.proofs.Pool.{B, cut-length, cut-take, cut-drop, cut-size, lay-view, total-take, total_up}
 use Rattle.reassembly_state.specs.Limits.{frags_most, bytes_most}
-use Rattle.reassembly_state.specs.Model.{Queue, queue, held, room_for}
+use Rattle.reassembly_state.specs.Model.{Queue, held, room_for}
 use Rattle.reassembly_state.specs.State.{State, count, sum, unsound, fragments, view, counts, lay}
 use Rattle.reassembly_state.specs.Rows.{first_ordered, ordered_rows, loose_rows}
 use Rattle.reassembly_state.proofs.Parts.{three, drop-take}

@@ -1,6 +1,7 @@
 // The state of a reassembly queue, of one stream: its counts, what is asked of them before anything else, and what every call's answer is.
 // The calls of crate `reassembly_queue` take and give the same counts.
 #![tactic(auto)]
+
 ghost use Rattle.std.specs.Prelude.{◌≡◌, ◌*◌, length};
 ghost use Rattle.reassembly_state.specs.Limits.{frags_most};
 ghost use Rattle.chunks.specs.Message.{number_told};

@@ -1,6 +1,7 @@
 // Fragments to messages, for eight streams that share one table and one pool: the public calls. Each stands in a crate of its kind, and is handed on
 // here; what they answer is said in streams_model/specs.
 #![tactic(auto)]
+
 pub use streams_forward::forward_tsn_for_ordered;
 pub use streams_forward_bounded::forward_tsn_for_ordered_bounded;
 pub use streams_forward_unordered::forward_tsn_for_unordered;

@@ -1,5 +1,6 @@
 // Taking the message that is next.
 #![tactic(auto)]
+
 ghost use Rattle.std.specs.Prelude.{◌≡◌, false, ◌*◌, length};
 ghost use Rattle.reassembly_state.specs.Limits.{frags_most};
 ghost use Rattle.reassembly_state.specs.Model.{taken};

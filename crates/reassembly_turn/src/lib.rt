@@ -1,5 +1,6 @@
 // The message that is next to be taken: where it stands, and the counts without it.
 #![tactic(auto)]
+
 ghost use Rattle.std.specs.Prelude.{◌≡◌, List, cond, ℕ, suc, ◌+◌, ◌*◌, ◌≤◌, min, ltb, length, take, drop};
 ghost use Rattle.table.specs.Rows.{rows_of, ahead_of};
 ghost use Rattle.fragments.specs.Frag.{ends, of_row};

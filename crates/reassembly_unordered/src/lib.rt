@@ -1,5 +1,6 @@
 // An unordered chunk of the queue's own stream, pushed into a sound queue.
 #![tactic(auto)]
+
 ghost use Rattle.std.specs.Prelude.{◌≡◌, false, ◌+◌, ◌*◌, ◌≤◌, ltb, length, take};
 ghost use Rattle.table.specs.Rows.{rows_of, total};
 ghost use Rattle.fragments.specs.Frag.{long_length};

@@ -50,7 +50,7 @@ pub extern "C" fn sctp_receive_reassembly_queue_forward_tsn_for_ordered_bounded(
     *ordered = left.ordered;
     *n_bytes = left.n_bytes;
     let answer = forwarded.answer;
-    sctp_receive_model::fragments::forwarded(answer)
+    sctp_receive_model::fragment_answers::forwarded(answer)
 }
 
 // The SSN up to which such a skip applies by now, if there is one: the last, or that of a set before it.

@@ -209,7 +209,7 @@ pub extern "C" fn sctp_receive_reassembly_queue_forward_tsn_for_ordered(
     *ordered = left.ordered;
     *n_bytes = left.n_bytes;
     let answer = forwarded.answer;
-    sctp_receive_model::fragments::forwarded(answer)
+    sctp_receive_model::fragment_answers::forwarded(answer)
 }
 
 // Drops loose unordered fragments from the front up to the first one after a TSN.
@@ -247,7 +247,7 @@ pub extern "C" fn sctp_receive_reassembly_queue_forward_tsn_for_unordered(
     *ordered = left.ordered;
     *n_bytes = left.n_bytes;
     let answer = forwarded.answer;
-    sctp_receive_model::fragments::forwarded(answer)
+    sctp_receive_model::fragment_answers::forwarded(answer)
 }
 
 // Applies a FORWARD TSN chunk: the ordered skip for each pair of its part that names the stream, in their order, then one unordered skip;
@@ -292,7 +292,7 @@ pub extern "C" fn sctp_receive_forward_tsn_apply_to_stream(
     *ordered = left.ordered;
     *n_bytes = left.n_bytes;
     let answer = skipped.answer;
-    sctp_receive_model::fragments::forwarded(answer)
+    sctp_receive_model::fragment_answers::forwarded(answer)
 }
 
 // The number of bytes held.

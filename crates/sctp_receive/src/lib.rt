@@ -2,6 +2,7 @@
 // Numbers, slices (a pointer and a length) and arrays (a pointer) only, so that include/sctp_receive.h holds on every processor. The result is -1 where
 // nothing was refused, else document 01's number. Each promise equates result and exit values with the definitions that the call below it is promised by.
 #![tactic(auto)]
+
 pub mod bounded_calls;
 pub mod cause_chunks;
 pub mod data_chunk;

@@ -1,5 +1,6 @@
 // What the C calls are made of that apply a FORWARD TSN chunk: the queue of the fields that C keeps goes through the call below.
 #![tactic(auto)]
+
 ghost use Rattle.std.specs.Prelude.{◌≡◌};
 ghost use Rattle.reassembly_state.specs.State as stream;
 ghost use Rattle.reassembly_state.specs.Answers.{done_told};

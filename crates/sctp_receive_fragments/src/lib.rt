@@ -1,5 +1,6 @@
 // What the C calls of reassembly are made of: the answers, taken apart: the values, 0 and false beside a refusal, and the result, -1 or the refusal's number.
 #![tactic(auto)]
+
 ghost use Rattle.std.specs.Prelude.{◌≡◌};
 ghost use Rattle.reassembly_state.specs.Answers.{took_told};
 ghost use Rattle.reassembly_applicable.specs.Answers.{applicable_told};

@@ -1,6 +1,7 @@
 // What the C calls of the message in hand are made of: the fields that C keeps, put together, and the answers, taken apart: the values, 0 and false beside a
 // refusal, and the result, -1 or the refusal's number.
 #![tactic(auto)]
+
 ghost use Rattle.std.specs.Prelude.{◌≡◌};
 ghost use Rattle.chunks.specs.Message.{flag_told, number_told, piece_told};
 ghost use Rattle.sctp_receive_result.specs.Result.{told, back};

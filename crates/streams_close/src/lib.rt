@@ -1,5 +1,6 @@
 // What stands behind one of eight streams moves down to what is left of the stream.
 #![tactic(auto)]
+
 ghost use Rattle.std.specs.Prelude.{◌≡◌, ◌+◌, ◌-◌, ◌*◌, ◌≤◌, length, take};
 ghost use Rattle.wire_model.specs.BigEndian.{over};
 ghost use Rattle.moves_model.specs.Lists.{gone};

@@ -1,5 +1,6 @@
 // What every call on eight streams asks of their counts: how much stands before a stream and behind it, whether they are sound.
 #![tactic(auto)]
+
 ghost use Rattle.std.specs.Prelude.{◌≡◌, suc, ◌-◌, ◌*◌, ◌≤◌, ◌<◌, ltb, length, take, drop};
 ghost use Rattle.reassembly_state.specs.Limits.{frags_most};
 ghost use Rattle.reassembly_state.specs.State.{count};

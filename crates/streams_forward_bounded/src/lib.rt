@@ -1,5 +1,6 @@
 // A skip of ordered messages on one of eight streams that a cumulative point bounds.
 #![tactic(auto)]
+
 ghost use Rattle.std.specs.Prelude.{◌≡◌};
 ghost use Rattle.reassembly_state.specs.Answers.{done_told};
 ghost use Rattle.streams_model.specs.State.{state_of, after, forward_bounded};

@@ -1,5 +1,6 @@
 // Eight streams at the start.
 #![tactic(auto)]
+
 ghost use Rattle.std.specs.Prelude.{◌≡◌};
 ghost use Rattle.streams_model.specs.Shape.{fresh_streams};
 

@@ -1,5 +1,6 @@
 // Looks at one of eight streams that change nothing: its byte count, and how far a skip held over its reset applies.
 #![tactic(auto)]
+
 ghost use Rattle.std.specs.Prelude.{◌≡◌};
 ghost use Rattle.chunks.specs.Message.{number_told};
 ghost use Rattle.reassembly_applicable.specs.Answers.{applicable_told};

@@ -1,5 +1,6 @@
 // Room made for a fragment of one of eight streams: what stands behind the stream moves up.
 #![tactic(auto)]
+
 ghost use Rattle.std.specs.Prelude.{◌≡◌, false, ◌+◌, ◌*◌, ◌<◌, ◌≤◌, length};
 ghost use Rattle.reassembly_state.specs.Limits.{frags_most, bytes_most};
 ghost use Rattle.reassembly_state.specs.State as one;

@@ -1,5 +1,6 @@
 // A chunk pushed to one of eight streams: what is refused before it is looked at.
 #![tactic(auto)]
+
 ghost use Rattle.std.specs.Prelude.{◌≡◌};
 ghost use Rattle.chunks.specs.Message.{flag_told};
 ghost use Rattle.streams_model.specs.State.{state_of, after, pushed};

@@ -1,5 +1,6 @@
 // Whether a message of one of eight streams can be read.
 #![tactic(auto)]
+
 ghost use Rattle.std.specs.Prelude.{◌≡◌};
 ghost use Rattle.chunks.specs.Message.{flag_told};
 ghost use Rattle.streams_model.specs.State.{state_of, is_readable};

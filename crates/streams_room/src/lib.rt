@@ -1,5 +1,6 @@
 // Whether a push to one of eight streams has room: what the streams draw on the common part.
 #![tactic(auto)]
+
 ghost use Rattle.std.specs.Prelude.{◌≡◌, ◌&&◌, cond, map, ◌+◌, ◌-◌, ◌*◌, ◌^◌, ◌≤◌, ◌<◌, leb, eqb};
 ghost use Rattle.reassembly_state.specs.Limits.{frags_most};
 ghost use Rattle.reassembly_state.specs.State.{count};

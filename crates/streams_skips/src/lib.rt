@@ -1,5 +1,6 @@
 // Skips of one of eight streams that are sound: what is dropped of it leaves the streams behind it further down.
 #![tactic(auto)]
+
 ghost use Rattle.std.specs.Prelude.{◌≡◌, false, ◌*◌, ◌<◌, length};
 ghost use Rattle.reassembly_state.specs.Limits.{frags_most};
 ghost use Rattle.reassembly_state.specs.Model.{skip_ordered, skip_unordered};

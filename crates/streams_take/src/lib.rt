@@ -1,5 +1,6 @@
 // The message that is next to be taken of one of eight streams, taken.
 #![tactic(auto)]
+
 ghost use Rattle.std.specs.Prelude.{◌≡◌};
 ghost use Rattle.reassembly_state.specs.Answers.{took_told};
 ghost use Rattle.streams_model.specs.State.{state_of, reads, read};

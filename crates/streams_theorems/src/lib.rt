@@ -2,6 +2,7 @@
 // room answers as its queue alone would, one within its own does so whatever the others do, and demand 3 holds of each. They stand in specs/ and
 // proofs/.
 #![tactic(auto)]
+
 pub fn stated() -> bool {
     true
 }

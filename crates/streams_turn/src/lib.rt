@@ -1,5 +1,6 @@
 // The message that is next to be taken of one of eight streams: where it stands, and taking it, of sound streams.
 #![tactic(auto)]
+
 ghost use Rattle.std.specs.Prelude.{◌≡◌, List, true, false, cond, ℕ, ◌+◌, ◌*◌, ◌<◌, ◌≤◌, ltb, length, set};
 ghost use Rattle.reassembly_state.specs.Limits.{frags_most};
 ghost use Rattle.reassembly_state.specs.Model.{taken};

@@ -1,5 +1,6 @@
 // An unordered chunk pushed to one of eight streams.
 #![tactic(auto)]
+
 ghost use Rattle.std.specs.Prelude.{◌≡◌, false, ◌*◌, ◌<◌, length};
 ghost use Rattle.chunks.specs.Message.{flag_told};
 ghost use Rattle.reassembly_state.specs.Limits.{frags_most};

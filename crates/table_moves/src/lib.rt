@@ -1,5 +1,6 @@
 // Rows of a lent table, moved: some taken out, and some turned round.
 #![tactic(auto)]
+
 ghost use Rattle.std.specs.Prelude.{◌≡◌, ◌+◌, ◌*◌, ◌≤◌, length, take};
 ghost use Rattle.wire_model.specs.BigEndian.{over};
 ghost use Rattle.moves_model.specs.Lists.{gone, turned};

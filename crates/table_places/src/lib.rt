@@ -1,5 +1,6 @@
 // The place of a new TSN among a table's rows. Each passes over the n rows from one on.
 #![tactic(auto)]
+
 ghost use Rattle.std.specs.Prelude.{◌≡◌, ◌+◌, ◌*◌, ◌≤◌, length, take, drop};
 ghost use Rattle.table.specs.Rows.{rows_of, some, up_to_last, tsn_before};
 

@@ -1,5 +1,6 @@
 // Rows written to a lent table: one put in between others, and one written over another.
 #![tactic(auto)]
+
 ghost use Rattle.std.specs.Prelude.{◌≡◌, [], ◌∷◌, ◌+◌, ◌*◌, ◌≤◌, ◌<◌, length, take, set};
 ghost use Rattle.wire_model.specs.BigEndian.{over};
 ghost use Rattle.moves_model.specs.Lists.{put};

@@ -19,4 +19,4 @@ loop-i-preserved c =
     )
 
 pub returns : goal.returns
-returns c =  sym (skip_done c.args.part.now f c.loop-i.i (omega arith) _) ∙ c.loop-i.invariant.2 f
+returns c = sym (skip_done c.args.part.now f c.loop-i.i (omega arith) _) ∙ c.loop-i.invariant.2 f

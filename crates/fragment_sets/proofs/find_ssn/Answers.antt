@@ -1,6 +1,6 @@
 -- `fragment_sets::find_ssn` meets its contract: the rows ahead are those passed and those ahead in the rest.
 use mathlib.Core.Path.{refl}
-use Prim.Native.Nat.{◌+◌, ◌*◌, ◌-◌}
+use Prim.Native.Nat.{◌+◌, ◌*◌}
 use native.Mathlib.Omega.{arith}
 use borrow.Author.Tests.{eq-eqb, ne_eqb}
 use Rattle.table.specs.Rows.{rows_of}

@@ -1,6 +1,6 @@
 -- `fragment_sets::has_other` meets its contract: after i turns it is whether one of the first i rows has another SSN.
 use mathlib.Core.Path.{◌≡◌, refl}
-use Prim.Native.Nat.{◌+◌, ◌*◌, ◌-◌}
+use Prim.Native.Nat.{◌+◌, ◌*◌}
 use native.Mathlib.Omega.{arith}
 use Rattle.table.specs.Rows.{rows_of, some}
 use Rattle.table.proofs.Columns.{rows_long}
@@ -21,4 +21,4 @@ loop-i-preserved c =
     (omega arith, refl, refl, rw (rows_more rs a.from i (omega arith), some-snoc, ← c.loop-i.invariant.3, w))
 
 pub returns : goal.returns
-returns c =  let e : c.loop-i.i ≡ c.args.n = omega arith in rw e at c.loop-i.invariant.3
+returns c = let e : c.loop-i.i ≡ c.args.n = omega arith in rw e at c.loop-i.invariant.3

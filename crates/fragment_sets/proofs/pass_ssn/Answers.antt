@@ -20,13 +20,13 @@ loop-i-init c =
 pub overflow_add-result : goal.overflow_add-result
 overflow_add-result c =
     let fits : c.args.from + c.args.n ≤ length (rows_of c.args.size c.args.table.now) = let e = rows_long c.args.size c.args.table.now c.requires.table_len in omega (arith, c.requires.n_bound) in
-    let other :  let a = c.args in (c.loop-i.i + c.run_ssn.result ≡ ahead_of (of_row (other_ssn a.ssn)) (take a.n (drop a.from (rows_of a.size a.table.now)))) × (c.loop-i.i + c.run_ssn.result ≤ a.n) = passed-all (of_row (other_ssn c.args.ssn)) (rows_of c.args.size c.args.table.now) c.args.from c.args.n c.loop-i.i c.run_ssn.result fits c.loop-i.invariant.1 c.run_ssn.ensures in
+    let other : let a = c.args in (c.loop-i.i + c.run_ssn.result ≡ ahead_of (of_row (other_ssn a.ssn)) (take a.n (drop a.from (rows_of a.size a.table.now)))) × (c.loop-i.i + c.run_ssn.result ≤ a.n) = passed-all (of_row (other_ssn c.args.ssn)) (rows_of c.args.size c.args.table.now) c.args.from c.args.n c.loop-i.i c.run_ssn.result fits c.loop-i.invariant.1 c.run_ssn.ensures in
     omega (arith, other)
 
 pub returns-then-has_other : goal.returns-then-has_other
 returns-then-has_other c =
     let fits : c.args.from + c.args.n ≤ length (rows_of c.args.size c.args.table.now) = let e = rows_long c.args.size c.args.table.now c.requires.table_len in omega (arith, c.requires.n_bound) in
-    let other :  let a = c.args in (c.loop-i.i + c.run_ssn.result ≡ ahead_of (of_row (other_ssn a.ssn)) (take a.n (drop a.from (rows_of a.size a.table.now)))) × (c.loop-i.i + c.run_ssn.result ≤ a.n) = passed-all (of_row (other_ssn c.args.ssn)) (rows_of c.args.size c.args.table.now) c.args.from c.args.n c.loop-i.i c.run_ssn.result fits c.loop-i.invariant.1 c.run_ssn.ensures in
+    let other : let a = c.args in (c.loop-i.i + c.run_ssn.result ≡ ahead_of (of_row (other_ssn a.ssn)) (take a.n (drop a.from (rows_of a.size a.table.now)))) × (c.loop-i.i + c.run_ssn.result ≤ a.n) = passed-all (of_row (other_ssn c.args.ssn)) (rows_of c.args.size c.args.table.now) c.args.from c.args.n c.loop-i.i c.run_ssn.result fits c.loop-i.invariant.1 c.run_ssn.ensures in
     other.0
 
 pub loop-i-preserved : goal.loop-i-preserved
@@ -38,11 +38,11 @@ loop-i-preserved c =
 pub overflow_add-result-2 : goal.overflow_add-result-2
 overflow_add-result-2 c =
     let fits : c.args.from + c.args.n ≤ length (rows_of c.args.size c.args.table.now) = let e = rows_long c.args.size c.args.table.now c.requires.table_len in omega (arith, c.requires.n_bound) in
-    let rest :  let a = c.args in (c.loop-i.i + c.run_ssn-2.result ≡ ahead_of (of_row (other_ssn a.ssn)) (take a.n (drop a.from (rows_of a.size a.table.now)))) × (c.loop-i.i + c.run_ssn-2.result ≤ a.n) = passed-all (of_row (other_ssn c.args.ssn)) (rows_of c.args.size c.args.table.now) c.args.from c.args.n c.loop-i.i c.run_ssn-2.result fits c.loop-i.invariant.1 c.run_ssn-2.ensures in
+    let rest : let a = c.args in (c.loop-i.i + c.run_ssn-2.result ≡ ahead_of (of_row (other_ssn a.ssn)) (take a.n (drop a.from (rows_of a.size a.table.now)))) × (c.loop-i.i + c.run_ssn-2.result ≤ a.n) = passed-all (of_row (other_ssn c.args.ssn)) (rows_of c.args.size c.args.table.now) c.args.from c.args.n c.loop-i.i c.run_ssn-2.result fits c.loop-i.invariant.1 c.run_ssn-2.ensures in
     omega (arith, rest)
 
 pub returns : goal.returns
 returns c =
     let fits : c.args.from + c.args.n ≤ length (rows_of c.args.size c.args.table.now) = let e = rows_long c.args.size c.args.table.now c.requires.table_len in omega (arith, c.requires.n_bound) in
-    let rest :  let a = c.args in (c.loop-i.i + c.run_ssn-2.result ≡ ahead_of (of_row (other_ssn a.ssn)) (take a.n (drop a.from (rows_of a.size a.table.now)))) × (c.loop-i.i + c.run_ssn-2.result ≤ a.n) = passed-all (of_row (other_ssn c.args.ssn)) (rows_of c.args.size c.args.table.now) c.args.from c.args.n c.loop-i.i c.run_ssn-2.result fits c.loop-i.invariant.1 c.run_ssn-2.ensures in
+    let rest : let a = c.args in (c.loop-i.i + c.run_ssn-2.result ≡ ahead_of (of_row (other_ssn a.ssn)) (take a.n (drop a.from (rows_of a.size a.table.now)))) × (c.loop-i.i + c.run_ssn-2.result ≤ a.n) = passed-all (of_row (other_ssn c.args.ssn)) (rows_of c.args.size c.args.table.now) c.args.from c.args.n c.loop-i.i c.run_ssn-2.result fits c.loop-i.invariant.1 c.run_ssn-2.ensures in
     rest.0

@@ -1,6 +1,6 @@
 -- `fragment_sets::place_ssn` meets its contract: what is passed from the end on is not before the SSN, so the place is among the rest.
 use mathlib.Core.Path.{◌≡◌}
-use Prim.Native.Nat.{◌+◌, ◌*◌, ◌-◌, ◌≤◌}
+use Prim.Native.Nat.{◌+◌, ◌*◌, ◌≤◌}
 use lib.ListN.{take, drop}
 use Rattle.table.specs.Rows.{rows_of, up_to_last}
 use Rattle.fragments.specs.Frag.{of_row, ssn_before}

@@ -35,7 +35,7 @@ row_at-first-requires c =
 
 pub close_fragments-requires : goal.close_fragments-requires
 close_fragments-requires c =
-     let p = c.requires in
+    let p = c.requires in
     record {
       table_len = omega arith;
       n_le_size = p.held_le_frags_most;

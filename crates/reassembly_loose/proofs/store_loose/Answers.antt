@@ -20,7 +20,7 @@ overflow_add-place c =
     let full : length of.rows ≡ frags_most = rows_long frags_most c.args.table.now c.requires.table_len in
     let new = fragment_of c.args.chunk c.args.user_data.now in
     let made : c.row_of-row.result ≡ row_of new = c.row_of-row.ensures ∙ chunk_row_lem c.args.chunk c.args.user_data.now in
-    let placing : ( c.walk_back.result ≡ place of ok full new) = rw (← (ap (λ (r : Row). r.tsn) made)) c.walk_back.ensures in
+    let placing : (c.walk_back.result ≡ place of ok full new) = rw (← (ap (λ (r : Row). r.tsn) made)) c.walk_back.ensures in
     let within : c.walk_back.result ≤ c.args.queue.unordered = omega (arith, placing, place_within of ok full new) in
     omega (arith, within, ok.few)
 
@@ -32,7 +32,7 @@ put_fragment-requires c =
     let full : length of.rows ≡ frags_most = rows_long frags_most c.args.table.now c.requires.table_len in
     let new = fragment_of c.args.chunk c.args.user_data.now in
     let made : c.row_of-row.result ≡ row_of new = c.row_of-row.ensures ∙ chunk_row_lem c.args.chunk c.args.user_data.now in
-    let placing : ( c.walk_back.result ≡ place of ok full new) = rw (← (ap (λ (r : Row). r.tsn) made)) c.walk_back.ensures in
+    let placing : (c.walk_back.result ≡ place of ok full new) = rw (← (ap (λ (r : Row). r.tsn) made)) c.walk_back.ensures in
     let within : c.walk_back.result ≤ c.args.queue.unordered = omega (arith, placing, place_within of ok full new) in
     let small : length new.bytes < 16777216 = omega (arith, c.requires) in
     let says : long_length c.row_of-row.result.head ≡ length c.args.user_data.now = ap (λ (r : Row). long_length r.head) made ∙ row-size new small in
@@ -55,7 +55,7 @@ returns c =
     let full : length of.rows ≡ frags_most = rows_long frags_most c.args.table.now c.requires.table_len in
     let new = fragment_of c.args.chunk c.args.user_data.now in
     let made : c.row_of-row.result ≡ row_of new = c.row_of-row.ensures ∙ chunk_row_lem c.args.chunk c.args.user_data.now in
-    let placing : ( c.walk_back.result ≡ place of ok full new) = rw (← (ap (λ (r : Row). r.tsn) made)) c.walk_back.ensures in
+    let placing : (c.walk_back.result ≡ place of ok full new) = rw (← (ap (λ (r : Row). r.tsn) made)) c.walk_back.ensures in
     let small : length new.bytes < 16777216 = omega (arith, c.requires) in
     let holds : frag_of c.row_of-row.result c.args.user_data.now ≡ new = ap (λ (r : Row). frag_of r c.args.user_data.now) made ∙ frag-back new small in
     stored-lay of ok full new placing holds c.put_fragment.ensures.table_after c.put_fragment.ensures.pool_after

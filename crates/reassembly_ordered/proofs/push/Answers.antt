@@ -26,13 +26,13 @@ returns-then-not-asked c =
     let of = state_of c.args.queue c.args.table.now c.args.pool.now in
     let ok : Sound of = sound of c.requires.pool_value in
     let full : length of.rows ≡ frags_most = rows_long frags_most c.args.table.now c.requires.table_len in
-    let asks : ( let r = c.ask-asked.result in Asks of c.args.room c.args.chunk (length c.args.user_data.now) (flag_told r.answer) r.keep r.at r.run) = c.ask-asked.ensures c.args.pool.now c.requires.pool_value in
+    let asks : (let r = c.ask-asked.result in Asks of c.args.room c.args.chunk (length c.args.user_data.now) (flag_told r.answer) r.keep r.at r.run) = c.ask-asked.ensures c.args.pool.now c.requires.pool_value in
     stays of c.unchanged.ensures ∙ asked-stays of ok full c.args.chunk c.args.user_data.now asks (not-true _ c.if-not-asked.true)
 
 pub keep-requires : goal.keep-requires
 keep-requires c =
     let of = state_of c.args.queue c.args.table.now c.args.pool.now in
-    let asks : ( let r = c.ask-asked.result in Asks of c.args.room c.args.chunk (length c.args.user_data.now) (flag_told r.answer) r.keep r.at r.run) = c.ask-asked.ensures c.args.pool.now c.requires.pool_value in
+    let asks : (let r = c.ask-asked.result in Asks of c.args.room c.args.chunk (length c.args.user_data.now) (flag_told r.answer) r.keep r.at r.run) = c.ask-asked.ensures c.args.pool.now c.requires.pool_value in
     let room = c.requires.fits_if (asks.with_room (not-false _ c.if-not-asked.false)) in
     record {
       table_len = c.requires.table_len;
@@ -46,5 +46,5 @@ keep-requires c =
 pub returns : goal.returns
 returns c =
     let of = state_of c.args.queue c.args.table.now c.args.pool.now in
-    let asks : ( let r = c.ask-asked.result in Asks of c.args.room c.args.chunk (length c.args.user_data.now) (flag_told r.answer) r.keep r.at r.run) = c.ask-asked.ensures c.args.pool.now c.requires.pool_value in
+    let asks : (let r = c.ask-asked.result in Asks of c.args.room c.args.chunk (length c.args.user_data.now) (flag_told r.answer) r.keep r.at r.run) = c.ask-asked.ensures c.args.pool.now c.requires.pool_value in
     c.keep.ensures ∙ asked-keeps of c.args.chunk c.args.user_data.now asks (not-false _ c.if-not-asked.false)

@@ -39,7 +39,7 @@ returns-then-is_complete c =
     let of : List ℕ → State = λ pool. state_of c.args.queue c.args.table.now pool in
     let full : (pool : List ℕ) → length (of pool).rows ≡ frags_most = λ pool. rows_long frags_most c.args.table.now c.requires.table_len in
     let some : 0 < c.args.queue.ordered = omega (arith, c.if-queue-eq0.false) in
-    let set : (b : Bool) → c.is_complete.result ≡ b → (pool : List ℕ) → ( ready_set c.args.queue.next_ssn (view (of pool)).ordered ≡ cond b (take c.run_ssn-run.result (view (of pool)).ordered) []) = λ b e pool. ready_is (of pool) c.requires.queue_bound (full pool) c.row_at-first.result c.run_ssn-run.result false b some c.row_at-first.ensures c.run_ssn-run.ensures (sym c.sna16lt.ensures ∙ c.if-sna16lt.false) (sym c.is_complete.ensures ∙ e) in
+    let set : (b : Bool) → c.is_complete.result ≡ b → (pool : List ℕ) → (ready_set c.args.queue.next_ssn (view (of pool)).ordered ≡ cond b (take c.run_ssn-run.result (view (of pool)).ordered) []) = λ b e pool. ready_is (of pool) c.requires.queue_bound (full pool) c.row_at-first.result c.run_ssn-run.result false b some c.row_at-first.ensures c.run_ssn-run.ensures (sym c.sna16lt.ensures ∙ c.if-sna16lt.false) (sym c.is_complete.ensures ∙ e) in
     (within, set true c.if-is_complete.true)
 
 pub returns : goal.returns
@@ -47,5 +47,5 @@ returns c =
     let of : List ℕ → State = λ pool. state_of c.args.queue c.args.table.now pool in
     let full : (pool : List ℕ) → length (of pool).rows ≡ frags_most = λ pool. rows_long frags_most c.args.table.now c.requires.table_len in
     let some : 0 < c.args.queue.ordered = omega (arith, c.if-queue-eq0.false) in
-    let set : (b : Bool) → c.is_complete.result ≡ b → (pool : List ℕ) → ( ready_set c.args.queue.next_ssn (view (of pool)).ordered ≡ cond b (take c.run_ssn-run.result (view (of pool)).ordered) []) = λ b e pool. ready_is (of pool) c.requires.queue_bound (full pool) c.row_at-first.result c.run_ssn-run.result false b some c.row_at-first.ensures c.run_ssn-run.ensures (sym c.sna16lt.ensures ∙ c.if-sna16lt.false) (sym c.is_complete.ensures ∙ e) in
+    let set : (b : Bool) → c.is_complete.result ≡ b → (pool : List ℕ) → (ready_set c.args.queue.next_ssn (view (of pool)).ordered ≡ cond b (take c.run_ssn-run.result (view (of pool)).ordered) []) = λ b e pool. ready_is (of pool) c.requires.queue_bound (full pool) c.row_at-first.result c.run_ssn-run.result false b some c.row_at-first.ensures c.run_ssn-run.ensures (sym c.sna16lt.ensures ∙ c.if-sna16lt.false) (sym c.is_complete.ensures ∙ e) in
     (omega arith, set false c.if-is_complete.false)

@@ -59,7 +59,7 @@ pub store_loose-grown-requires : goal.store_loose-grown-requires
 unfolding fragment_of
 store_loose-grown-requires c =
     let new = fragment_of c.args.chunk c.args.user_data.now in
-    let room : ( (count c.args.queue < frags_most) × (c.args.queue.n_bytes + length new.bytes ≤ bytes_most)) = c.requires.fits_if c.if-not-room.false in
+    let room : ((count c.args.queue < frags_most) × (c.args.queue.n_bytes + length new.bytes ≤ bytes_most)) = c.requires.fits_if c.if-not-room.false in
     record {
       table_len = c.requires.table_len;
       pool_value = c.requires.pool_value;
@@ -74,7 +74,7 @@ settle-requires c =
     let ok : Sound of = sound of c.requires.pool_value in
     let full : length of.rows ≡ frags_most = rows_long frags_most c.args.table.now c.requires.table_len in
     let new = fragment_of c.args.chunk c.args.user_data.now in
-    let room : ( (count c.args.queue < frags_most) × (c.args.queue.n_bytes + length new.bytes ≤ bytes_most)) = c.requires.fits_if c.if-not-room.false in
+    let room : ((count c.args.queue < frags_most) × (c.args.queue.n_bytes + length new.bytes ≤ bytes_most)) = c.requires.fits_if c.if-not-room.false in
     record {
       table_len = search rules;
       pool_value = ap unsound c.store_loose-grown.ensures ∙ stored_sound of ok full new room.0 room.1;
@@ -87,7 +87,7 @@ returns c =
     let ok : Sound of = sound of c.requires.pool_value in
     let full : length of.rows ≡ frags_most = rows_long frags_most c.args.table.now c.requires.table_len in
     let new = fragment_of c.args.chunk c.args.user_data.now in
-    let room : ( (count c.args.queue < frags_most) × (c.args.queue.n_bytes + length new.bytes ≤ bytes_most)) = c.requires.fits_if c.if-not-room.false in
+    let room : ((count c.args.queue < frags_most) × (c.args.queue.n_bytes + length new.bytes ≤ bytes_most)) = c.requires.fits_if c.if-not-room.false in
     c.settle.ensures ∙ ap (λ (x : State). laid x (settled (view x))) c.store_loose-grown.ensures
     ∙ stored-settled of ok full new room.0 room.1
     ∙ push_stores of ok full c.args.chunk c.args.user_data.now c.args.room (sym c.too_large.ensures ∙ c.if-too_large.false) (sym c.has_tsn.ensures ∙ c.if-has_tsn.false) c.if-not-room.false

@@ -13,11 +13,11 @@ returns-then-chunk-2 c = rw (c.if-chunk.true, c.if-chunk-2.true)
 
 pub returns-then-chunk : goal.returns-then-chunk
 unfolding neighbours
-returns-then-chunk c =  rw (c.if-chunk.true, c.if-chunk-2.false, c.run_up.ensures) (omega arith)
+returns-then-chunk c = rw (c.if-chunk.true, c.if-chunk-2.false, c.run_up.ensures) (omega arith)
 
 pub returns-then-chunk-3 : goal.returns-then-chunk-3
 unfolding neighbours
-returns-then-chunk-3 c =  rw (c.if-chunk.false, c.if-chunk-3.true, c.run_down-down.ensures) (omega arith)
+returns-then-chunk-3 c = rw (c.if-chunk.false, c.if-chunk-3.true, c.run_down-down.ensures) (omega arith)
 
 pub overflow_add-result : goal.overflow_add-result
 overflow_add-result c =
@@ -27,4 +27,4 @@ overflow_add-result c =
 
 pub returns : goal.returns
 unfolding neighbours
-returns c =  rw (c.if-chunk.false, c.if-chunk-3.false, c.run_down-down.ensures, c.run_up-up.ensures)
+returns c = rw (c.if-chunk.false, c.if-chunk-3.false, c.run_down-down.ensures, c.run_up-up.ensures)

@@ -16,11 +16,11 @@ pub returns-in-Header : goal.returns-in-Header
 unfolding user_span
 returns-in-Header c f =
     let r = c.header-answer in
-    let t = told-taken (data_checks (length c.args.raw.now) f.fields) f.fields r.result (r.ensures.0 f) c.in-Header.is in
+    let t = told-taken (data_checks (length c.args.raw.now) f.fields) f.fields r.result (r.ensures.result_value f) c.in-Header.is in
     rw (t.0, ← (ap (λ (x : Header). x.size) t.1))
 
 pub returns-in-Refused : goal.returns-in-Refused
 unfolding user_span
 returns-in-Refused c f =
     let r = c.header-answer in
-    rw (told-refused (data_checks (length c.args.raw.now) f.fields) f.fields r.result (r.ensures.0 f) c.in-Refused.is, back_refuse c.in-Refused.k (omega arith))
+    rw (told-refused (data_checks (length c.args.raw.now) f.fields) f.fields r.result (r.ensures.result_value f) c.in-Refused.is, back_refuse c.in-Refused.k (omega arith))

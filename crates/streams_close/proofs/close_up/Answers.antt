@@ -16,8 +16,7 @@ returns-then-place-off c =
 
 pub returns : goal.returns
 returns c =
-    let whole = c.move_down.ensures in
     record {
-      table_after = whole.0;
-      pool_after = whole.1;
+      table_after = c.move_down.ensures.table_after;
+      pool_after = c.move_down.ensures.pool_after;
     }

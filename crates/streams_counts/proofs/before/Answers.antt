@@ -15,4 +15,4 @@ held-requires c =
     }
 
 pub returns : goal.returns
-returns c = let e : c.args.stream - 0 ≡ c.args.stream = omega arith in rw e at c.held.ensures
+returns c = let e : c.args.stream - 0 ≡ c.args.stream = omega arith in (rw e at c.held.ensures.rows_value, rw e at c.held.ensures.bytes_value)

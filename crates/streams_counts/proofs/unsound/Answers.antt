@@ -25,17 +25,17 @@ returns-then-above c =
 
 pub overflow_add-n : goal.overflow_add-n
 overflow_add-n c =
-    let fits :  c.loop-i.first + count c.at-queue.result ≤ frags_most = let within = ltb-false (frags_most - c.loop-i.first) (count c.at-queue.result) (sym c.above.ensures ∙ c.if-above.false) in omega (arith, within, c.loop-i.invariant.few) in
+    let fits : c.loop-i.first + count c.at-queue.result ≤ frags_most = let within = ltb-false (frags_most - c.loop-i.first) (count c.at-queue.result) (sym c.above.ensures ∙ c.if-above.false) in omega (arith, within, c.loop-i.invariant.few) in
     omega (arith, fits)
 
 pub overflow_add-n-in-loop-i : goal.overflow_add-n-in-loop-i
 overflow_add-n-in-loop-i c =
-    let fits :  c.loop-i.first + count c.at-queue.result ≤ frags_most = let within = ltb-false (frags_most - c.loop-i.first) (count c.at-queue.result) (sym c.above.ensures ∙ c.if-above.false) in omega (arith, within, c.loop-i.invariant.few) in
+    let fits : c.loop-i.first + count c.at-queue.result ≤ frags_most = let within = ltb-false (frags_most - c.loop-i.first) (count c.at-queue.result) (sym c.above.ensures ∙ c.if-above.false) in omega (arith, within, c.loop-i.invariant.few) in
     omega (arith, fits)
 
 pub sum_long-sum-requires : goal.sum_long-sum-requires
 sum_long-sum-requires c =
-    let fits :  c.loop-i.first + count c.at-queue.result ≤ frags_most = let within = ltb-false (frags_most - c.loop-i.first) (count c.at-queue.result) (sym c.above.ensures ∙ c.if-above.false) in omega (arith, within, c.loop-i.invariant.few) in
+    let fits : c.loop-i.first + count c.at-queue.result ≤ frags_most = let within = ltb-false (frags_most - c.loop-i.first) (count c.at-queue.result) (sym c.above.ensures ∙ c.if-above.false) in omega (arith, within, c.loop-i.invariant.few) in
     record {
       size_bound = omega arith;
       table_len = omega arith;
@@ -49,20 +49,20 @@ returns-then-sum-queue c =
 
 pub overflow_add-first : goal.overflow_add-first
 overflow_add-first c =
-    let fits :  c.loop-i.first + count c.at-queue.result ≤ frags_most = let within = ltb-false (frags_most - c.loop-i.first) (count c.at-queue.result) (sym c.above.ensures ∙ c.if-above.false) in omega (arith, within, c.loop-i.invariant.few) in
+    let fits : c.loop-i.first + count c.at-queue.result ≤ frags_most = let within = ltb-false (frags_most - c.loop-i.first) (count c.at-queue.result) (sym c.above.ensures ∙ c.if-above.false) in omega (arith, within, c.loop-i.invariant.few) in
     omega (arith, fits)
 
 pub overflow_add-bytes : goal.overflow_add-bytes
 overflow_add-bytes c =
     let of = let a = c.args in state_of a.streams a.table.now a.pool.now in
-    let fits :  c.loop-i.first + count c.at-queue.result ≤ frags_most = let within = ltb-false (frags_most - c.loop-i.first) (count c.at-queue.result) (sym c.above.ensures ∙ c.if-above.false) in omega (arith, within, c.loop-i.invariant.few) in
+    let fits : c.loop-i.first + count c.at-queue.result ≤ frags_most = let within = ltb-false (frags_most - c.loop-i.first) (count c.at-queue.result) (sym c.above.ensures ∙ c.if-above.false) in omega (arith, within, c.loop-i.invariant.few) in
     let summed : c.sum_long-sum.result ≤ 16777216 * frags_most = rw c.sum_long-sum.ensures (bytes_most_lem (count c.at-queue.result) (drop c.loop-i.first of.rows) (omega (arith, fits))) in
     omega (arith, summed, c.loop-i.invariant.small)
 
 pub loop-i-preserved : goal.loop-i-preserved
 loop-i-preserved c =
     let of = let a = c.args in state_of a.streams a.table.now a.pool.now in
-    let fits :  c.loop-i.first + count c.at-queue.result ≤ frags_most = let within = ltb-false (frags_most - c.loop-i.first) (count c.at-queue.result) (sym c.above.ensures ∙ c.if-above.false) in omega (arith, within, c.loop-i.invariant.few) in
+    let fits : c.loop-i.first + count c.at-queue.result ≤ frags_most = let within = ltb-false (frags_most - c.loop-i.first) (count c.at-queue.result) (sym c.above.ensures ∙ c.if-above.false) in omega (arith, within, c.loop-i.invariant.few) in
     let summed : c.sum_long-sum.result ≤ 16777216 * frags_most = rw c.sum_long-sum.ensures (bytes_most_lem (count c.at-queue.result) (drop c.loop-i.first of.rows) (omega (arith, fits))) in
     asked-more of c.loop-i.invariant (omega arith) c.at-queue.ensures c.sum_long-sum.ensures (sym c.above.ensures ∙ c.if-above.false) c.if-sum-queue.false summed
 

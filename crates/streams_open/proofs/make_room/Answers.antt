@@ -100,7 +100,7 @@ put_fragment-requires c =
     let all-rows : count c.args.place.queue + c.args.place.behind.rows ≡ rows_held of.queues = omega (arith, own-rows, others.rows_behind_is, rows_split of ok full c.args.stream here) in
     let all-bytes : c.args.place.queue.n_bytes + c.args.place.behind.bytes ≡ bytes_said of.queues = let e = ap (λ (q : Counts). q.n_bytes) front in omega (arith, e, others.bytes-behind, bytes-split of ok full c.args.stream here) in
     let roomy : (rows_held of.queues < frags_most) × (bytes_said of.queues + length c.args.user_data.now ≤ bytes_most) = (search rules, search rules) in
-    let summed : {n : ℕ} → n ≡ rows_held of.queues → B (take n of.rows) ≡ bytes_said of.queues = λ e. ap (λ (i : ℕ). B (take i of.rows)) e ∙ sums-total of.queues of.rows ok.sums in
+    let summed : (n : ℕ) → n ≡ rows_held of.queues → B (take n of.rows) ≡ bytes_said of.queues = λ n e. ap (λ (i : ℕ). B (take i of.rows)) e ∙ sums-total of.queues of.rows ok.sums in
     let short : length c.args.user_data.now < 16777216 = omega (arith, roomy) in
     let e = all-rows in
     let bytes = all-bytes in
@@ -110,7 +110,7 @@ put_fragment-requires c =
       table_len = search rules;
       n_lt_size = omega (arith, e, room.0);
       at_le_n = omega arith;
-      table_value = summed e ∙ sym bytes;
+      table_value = summed _ e ∙ sym bytes;
       bytes_in_bounds = omega (arith, bytes, room.1, ok.long);
       head_value = chunk-long c.args.chunk c.args.user_data.now short c.row_of-row.ensures;
     }

@@ -58,8 +58,8 @@ keep-left-requires c =
       pool_value = r.sound;
       queue_bound = fits.0;
       user_data_bound = fits.1;
-      at_value = stands.0 ∙ sym (r.set_at c.args.chunk.stream_sequence_number);
-      run_value = stands.1 ∙ sym (r.set_run c.args.chunk.stream_sequence_number);
+      at_value = stands.0 ∙ sym (r.set-at c.args.chunk.stream_sequence_number);
+      run_value = stands.1 ∙ sym (r.set-run c.args.chunk.stream_sequence_number);
     }
 
 pub put_back-requires : goal.put_back-requires
@@ -70,9 +70,15 @@ put_back-requires c =
     let full : length of.rows ≡ frags_most = rows_long frags_most c.args.table.now (search rules) in
     let new = fragment_of c.args.chunk c.args.user_data.now in
     let ready = c.make_room.ensures in
-    let fronted :  Fronted of c.args.stream (keep_ordered (own of c.args.stream) new).queue c.keep-left.result.queue (rows_of frags_most c.keep-left.new.table) c.keep-left.new.pool = kept_fronted of ok full c.args.stream here new ready c.keep-left.ensures in
+    let fronted : Fronted of c.args.stream (keep_ordered (own of c.args.stream) new).queue c.keep-left.result.queue (rows_of frags_most c.keep-left.new.table) c.keep-left.new.pool = kept_fronted of ok full c.args.stream here new ready c.keep-left.ensures in
     let others : let p = c.args.place in Others of.queues c.args.stream p.before.rows p.before.bytes p.behind.rows p.behind.bytes = search rules in
-    (here, front_fits of ok full c.args.stream here fronted others)
+    let rest = front_fits of ok full c.args.stream here fronted others in
+    record {
+      stream_lt_streams_most = here;
+      rows_le_finished = rest.0;
+      rows_le_ordered = rest.1.0;
+      bytes_bound = rest.1.1;
+    }
 
 pub returns : goal.returns
 returns c =
@@ -82,7 +88,7 @@ returns c =
     let here : c.args.stream < streams_most = search rules in
     let new = fragment_of c.args.chunk c.args.user_data.now in
     let ready = c.make_room.ensures in
-    let fronted :  Fronted of c.args.stream (keep_ordered (own of c.args.stream) new).queue c.keep-left.result.queue (rows_of frags_most c.keep-left.new.table) c.keep-left.new.pool = kept_fronted of ok full c.args.stream here new ready c.keep-left.ensures in
+    let fronted : Fronted of c.args.stream (keep_ordered (own of c.args.stream) new).queue c.keep-left.result.queue (rows_of frags_most c.keep-left.new.table) c.keep-left.new.pool = kept_fronted of ok full c.args.stream here new ready c.keep-left.ensures in
     let others : let p = c.args.place in Others of.queues c.args.stream p.before.rows p.before.bytes p.behind.rows p.behind.bytes = search rules in
     both_are (kept-told of ok full c.args.stream here new ready c.keep-left.ensures)
     (front-is of ok full c.args.stream here fronted others c.put_back.ensures)

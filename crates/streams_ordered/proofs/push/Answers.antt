@@ -1,4 +1,5 @@
 -- `streams_ordered::push` meets its contract: what the questions find beside the others they find alone; what is not kept leaves all as it was.
+use borrow.Author.Tests.{not-true, not-false}
 use mathlib.Core.Path.{◌≡◌, ap, ◌∙◌}
 use mathlib.Core.Bool.{true, false}
 use Prim.Native.Nat.{◌*◌, ◌<◌}
@@ -51,8 +52,8 @@ returns-then-not-asked c =
     let full : length of.rows ≡ frags_most = rows_long frags_most c.args.table.now (search rules) in
     let here : c.args.stream < streams_most = search rules in
     let front : c.among_front-place.result.queue ≡ among_none of.queues c.args.stream = c.among_front-place.ensures.queue_value in
-    let asks :  let r = c.ask-asked.result in Asks (among of c.args.stream 0 0) c.args.room c.args.chunk (length c.args.user_data.now) (flag_told r.answer) r.keep r.at r.run = asks_front of ok full c.args.stream here front (c.ask-asked.ensures c.args.pool.now) in
-    away of ok full c.args.stream here c.args.chunk c.args.user_data.now asks (c.if-not-asked.true)
+    let asks : let r = c.ask-asked.result in Asks (among of c.args.stream 0 0) c.args.room c.args.chunk (length c.args.user_data.now) (flag_told r.answer) r.keep r.at r.run = asks_front of ok full c.args.stream here front (c.ask-asked.ensures c.args.pool.now) in
+    away of ok full c.args.stream here c.args.chunk c.args.user_data.now asks ((not-true _ c.if-not-asked.true))
 
 pub keep-requires : goal.keep-requires
 keep-requires c =
@@ -61,11 +62,11 @@ keep-requires c =
     let full : length of.rows ≡ frags_most = rows_long frags_most c.args.table.now (search rules) in
     let here : c.args.stream < streams_most = search rules in
     let front : c.among_front-place.result.queue ≡ among_none of.queues c.args.stream = c.among_front-place.ensures.queue_value in
-    let asks :  let r = c.ask-asked.result in Asks (among of c.args.stream 0 0) c.args.room c.args.chunk (length c.args.user_data.now) (flag_told r.answer) r.keep r.at r.run = asks_front of ok full c.args.stream here front (c.ask-asked.ensures c.args.pool.now) in
+    let asks : let r = c.ask-asked.result in Asks (among of c.args.stream 0 0) c.args.room c.args.chunk (length c.args.user_data.now) (flag_told r.answer) r.keep r.at r.run = asks_front of ok full c.args.stream here front (c.ask-asked.ensures c.args.pool.now) in
     let roomy : roomy_if c.args.room of (length c.args.user_data.now) = search rules in
     let sized : length c.args.table.now ≡ 4 * frags_most = search rules in
     let r = asks in
-    let room = roomy (r.with_room (c.if-not-asked.false)) in
+    let room = roomy (r.with_room ((not-false _ c.if-not-asked.false))) in
     record {
       table_len = sized;
       pool_value = search rules;
@@ -85,6 +86,6 @@ returns c =
     let full : length of.rows ≡ frags_most = rows_long frags_most c.args.table.now (search rules) in
     let here : c.args.stream < streams_most = search rules in
     let front : c.among_front-place.result.queue ≡ among_none of.queues c.args.stream = c.among_front-place.ensures.queue_value in
-    let asks :  let r = c.ask-asked.result in Asks (among of c.args.stream 0 0) c.args.room c.args.chunk (length c.args.user_data.now) (flag_told r.answer) r.keep r.at r.run = asks_front of ok full c.args.stream here front (c.ask-asked.ensures c.args.pool.now) in
+    let asks : let r = c.ask-asked.result in Asks (among of c.args.stream 0 0) c.args.room c.args.chunk (length c.args.user_data.now) (flag_told r.answer) r.keep r.at r.run = asks_front of ok full c.args.stream here front (c.ask-asked.ensures c.args.pool.now) in
     c.keep.ensures
-    ∙ ap (laid of c.args.stream) (kept-is of ok full c.args.stream here c.args.chunk c.args.user_data.now asks (c.if-not-asked.false))
+    ∙ ap (laid of c.args.stream) (kept-is of ok full c.args.stream here c.args.chunk c.args.user_data.now asks ((not-false _ c.if-not-asked.false)))

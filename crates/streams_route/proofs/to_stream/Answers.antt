@@ -49,7 +49,7 @@ push-requires c =
     let of = state_of c.args.streams c.args.table.now c.args.pool.now in
     let safe : unsound of ≡ false = search rules in
     let here : c.args.stream < streams_most = search rules in
-    let roomy :  roomy_if c.has_room-room.result of (length c.args.user_data.now) = λ e. room_fits of.queues refl c.args.stream (length c.args.user_data.now) here (sym c.has_room-room.ensures ∙ e) in
+    let roomy : roomy_if c.has_room-room.result of (length c.args.user_data.now) = λ e. room_fits of.queues refl c.args.stream (length c.args.user_data.now) here (sym c.has_room-room.ensures ∙ e) in
     record {
       table_len = sized;
       pool_value = safe;
@@ -66,10 +66,10 @@ returns-then-chunk c =
     let full : length of.rows ≡ frags_most = rows_long frags_most c.args.table.now sized in
     let here : c.args.stream < streams_most = search rules in
     let si-is : c.at-own.result.si ≡ (mine of c.args.stream).si = ap (λ (q : Counts). q.si) c.at-own.ensures in
-    let own-stream :  c.args.chunk.stream_identifier ≡ (mine of c.args.stream).si = c.if-chunk-own.false ∙ si-is in
+    let own-stream : c.args.chunk.stream_identifier ≡ (mine of c.args.stream).si = c.if-chunk-own.false ∙ si-is in
     let new = fragment_of c.args.chunk c.args.user_data.now in
     let pushed : Bool → After Bool = λ r. laid of c.args.stream (queue.push r (own of c.args.stream) c.args.chunk.stream_identifier c.args.chunk.unordered new) in
-    let room :  c.has_room-room.result ≡ room_among (view of) c.args.stream new = room-is of ok full c.args.stream here c.args.chunk c.args.user_data.now c.has_room-room.ensures in
+    let room : c.has_room-room.result ≡ room_among (view of) c.args.stream new = room-is of ok full c.args.stream here c.args.chunk c.args.user_data.now c.has_room-room.ensures in
     c.push.ensures
     ∙ by_mark of ok full c.args.stream here c.args.chunk c.args.user_data.now c.has_room-room.result own-stream c.if-chunk.true
     ∙ ap pushed room
@@ -80,7 +80,7 @@ push-requires-2 c =
     let of = state_of c.args.streams c.args.table.now c.args.pool.now in
     let safe : unsound of ≡ false = search rules in
     let here : c.args.stream < streams_most = search rules in
-    let roomy :  roomy_if c.has_room-room.result of (length c.args.user_data.now) = λ e. room_fits of.queues refl c.args.stream (length c.args.user_data.now) here (sym c.has_room-room.ensures ∙ e) in
+    let roomy : roomy_if c.has_room-room.result of (length c.args.user_data.now) = λ e. room_fits of.queues refl c.args.stream (length c.args.user_data.now) here (sym c.has_room-room.ensures ∙ e) in
     record {
       table_len = sized;
       pool_value = safe;
@@ -97,10 +97,10 @@ returns c =
     let full : length of.rows ≡ frags_most = rows_long frags_most c.args.table.now sized in
     let here : c.args.stream < streams_most = search rules in
     let si-is : c.at-own.result.si ≡ (mine of c.args.stream).si = ap (λ (q : Counts). q.si) c.at-own.ensures in
-    let own-stream :  c.args.chunk.stream_identifier ≡ (mine of c.args.stream).si = c.if-chunk-own.false ∙ si-is in
+    let own-stream : c.args.chunk.stream_identifier ≡ (mine of c.args.stream).si = c.if-chunk-own.false ∙ si-is in
     let new = fragment_of c.args.chunk c.args.user_data.now in
     let pushed : Bool → After Bool = λ r. laid of c.args.stream (queue.push r (own of c.args.stream) c.args.chunk.stream_identifier c.args.chunk.unordered new) in
-    let room :  c.has_room-room.result ≡ room_among (view of) c.args.stream new = room-is of ok full c.args.stream here c.args.chunk c.args.user_data.now c.has_room-room.ensures in
+    let room : c.has_room-room.result ≡ room_among (view of) c.args.stream new = room-is of ok full c.args.stream here c.args.chunk c.args.user_data.now c.has_room-room.ensures in
     c.push-2.ensures
     ∙ without-mark of ok full c.args.stream here c.args.chunk c.args.user_data.now c.has_room-room.result own-stream c.if-chunk.false
     ∙ ap pushed room

@@ -48,7 +48,7 @@ close_up-requires c =
     let full : length of.rows ≡ frags_most = rows_long frags_most c.args.table.now sized in
     let here : c.args.stream < streams_most = search rules in
     let front : c.among_front-place.result.queue ≡ among_none of.queues c.args.stream = c.among_front-place.ensures.queue_value in
-    let shrunk :  Shrunk of c.args.stream (skip_bounded (own of c.args.stream) c.args.last_ssn c.args.new_cumulative_tsn) c.among_front-place.result.queue c.skip_bounded-left.result (rows_of frags_most c.skip_bounded-left.new.table) c.skip_bounded-left.new.pool = bounded_shrunk of ok full c.args.stream here front c.args.last_ssn c.args.new_cumulative_tsn c.skip_bounded-left.ensures in
+    let shrunk : Shrunk of c.args.stream (skip_bounded (own of c.args.stream) c.args.last_ssn c.args.new_cumulative_tsn) c.among_front-place.result.queue c.skip_bounded-left.result (rows_of frags_most c.skip_bounded-left.new.table) c.skip_bounded-left.new.pool = bounded_shrunk of ok full c.args.stream here front c.args.last_ssn c.args.new_cumulative_tsn c.skip_bounded-left.ensures in
     let less = no_more of ok full c.args.stream here front shrunk in
     let whole = whole_fits of ok full c.args.stream here front c.among_front-place.ensures.others in
     record {
@@ -67,9 +67,15 @@ put_back-requires c =
     let sized : length c.args.table.now ≡ 4 * frags_most = search rules in
     let full : length of.rows ≡ frags_most = rows_long frags_most c.args.table.now sized in
     let front : c.among_front-place.result.queue ≡ among_none of.queues c.args.stream = c.among_front-place.ensures.queue_value in
-    let shrunk :  Shrunk of c.args.stream (skip_bounded (own of c.args.stream) c.args.last_ssn c.args.new_cumulative_tsn) c.among_front-place.result.queue c.skip_bounded-left.result (rows_of frags_most c.skip_bounded-left.new.table) c.skip_bounded-left.new.pool = bounded_shrunk of ok full c.args.stream here front c.args.last_ssn c.args.new_cumulative_tsn c.skip_bounded-left.ensures in
-    let fronted :  Fronted of c.args.stream (skip_bounded (own of c.args.stream) c.args.last_ssn c.args.new_cumulative_tsn) c.skip_bounded-left.result (rows_of frags_most c.close_up.new.table) c.close_up.new.pool = closed of ok full c.args.stream here front shrunk c.among_front-place.ensures.others c.close_up.ensures.table_after c.close_up.ensures.pool_after in
-    (here, front_fits of ok full c.args.stream here fronted c.among_front-place.ensures.others)
+    let shrunk : Shrunk of c.args.stream (skip_bounded (own of c.args.stream) c.args.last_ssn c.args.new_cumulative_tsn) c.among_front-place.result.queue c.skip_bounded-left.result (rows_of frags_most c.skip_bounded-left.new.table) c.skip_bounded-left.new.pool = bounded_shrunk of ok full c.args.stream here front c.args.last_ssn c.args.new_cumulative_tsn c.skip_bounded-left.ensures in
+    let fronted : Fronted of c.args.stream (skip_bounded (own of c.args.stream) c.args.last_ssn c.args.new_cumulative_tsn) c.skip_bounded-left.result (rows_of frags_most c.close_up.new.table) c.close_up.new.pool = closed of ok full c.args.stream here front shrunk c.among_front-place.ensures.others c.close_up.ensures.table_after c.close_up.ensures.pool_after in
+    let rest = front_fits of ok full c.args.stream here fronted c.among_front-place.ensures.others in
+    record {
+      stream_lt_streams_most = here;
+      rows_le_finished = rest.0;
+      rows_le_ordered = rest.1.0;
+      bytes_bound = rest.1.1;
+    }
 
 pub returns : goal.returns
 returns c =
@@ -79,6 +85,6 @@ returns c =
     let full : length of.rows ≡ frags_most = rows_long frags_most c.args.table.now sized in
     let here : c.args.stream < streams_most = search rules in
     let front : c.among_front-place.result.queue ≡ among_none of.queues c.args.stream = c.among_front-place.ensures.queue_value in
-    let shrunk :  Shrunk of c.args.stream (skip_bounded (own of c.args.stream) c.args.last_ssn c.args.new_cumulative_tsn) c.among_front-place.result.queue c.skip_bounded-left.result (rows_of frags_most c.skip_bounded-left.new.table) c.skip_bounded-left.new.pool = bounded_shrunk of ok full c.args.stream here front c.args.last_ssn c.args.new_cumulative_tsn c.skip_bounded-left.ensures in
-    let fronted :  Fronted of c.args.stream (skip_bounded (own of c.args.stream) c.args.last_ssn c.args.new_cumulative_tsn) c.skip_bounded-left.result (rows_of frags_most c.close_up.new.table) c.close_up.new.pool = closed of ok full c.args.stream here front shrunk c.among_front-place.ensures.others c.close_up.ensures.table_after c.close_up.ensures.pool_after in
+    let shrunk : Shrunk of c.args.stream (skip_bounded (own of c.args.stream) c.args.last_ssn c.args.new_cumulative_tsn) c.among_front-place.result.queue c.skip_bounded-left.result (rows_of frags_most c.skip_bounded-left.new.table) c.skip_bounded-left.new.pool = bounded_shrunk of ok full c.args.stream here front c.args.last_ssn c.args.new_cumulative_tsn c.skip_bounded-left.ensures in
+    let fronted : Fronted of c.args.stream (skip_bounded (own of c.args.stream) c.args.last_ssn c.args.new_cumulative_tsn) c.skip_bounded-left.result (rows_of frags_most c.close_up.new.table) c.close_up.new.pool = closed of ok full c.args.stream here front shrunk c.among_front-place.ensures.others c.close_up.ensures.table_after c.close_up.ensures.pool_after in
     front-is of ok full c.args.stream here fronted c.among_front-place.ensures.others c.put_back.ensures

@@ -44,8 +44,14 @@ put_back-requires c =
     let ok : Sound of = sound of (search rules) in
     let sized : length c.args.table.now ≡ 4 * frags_most = search rules in
     let full : length of.rows ≡ frags_most = rows_long frags_most c.args.table.now sized in
-    let left :  Left of c.args.stream (skip_unordered (own of c.args.stream) c.args.new_cumulative_tsn) c.skip_unordered-left.result (rows_of frags_most c.skip_unordered-left.new.table) c.skip_unordered-left.new.pool = unordered-left of ok full c.args.stream here c.among_all-place.ensures.queue_value c.args.new_cumulative_tsn c.skip_unordered-left.ensures in
-    (here, left_fits of ok full c.args.stream here left c.among_all-place.ensures.others)
+    let left : Left of c.args.stream (skip_unordered (own of c.args.stream) c.args.new_cumulative_tsn) c.skip_unordered-left.result (rows_of frags_most c.skip_unordered-left.new.table) c.skip_unordered-left.new.pool = unordered-left of ok full c.args.stream here c.among_all-place.ensures.queue_value c.args.new_cumulative_tsn c.skip_unordered-left.ensures in
+    let rest = left_fits of ok full c.args.stream here left c.among_all-place.ensures.others in
+    record {
+      stream_lt_streams_most = here;
+      rows_le_finished = rest.0;
+      rows_le_ordered = rest.1.0;
+      bytes_bound = rest.1.1;
+    }
 
 pub returns : goal.returns
 returns c =
@@ -54,5 +60,5 @@ returns c =
     let sized : length c.args.table.now ≡ 4 * frags_most = search rules in
     let full : length of.rows ≡ frags_most = rows_long frags_most c.args.table.now sized in
     let here : c.args.stream < streams_most = search rules in
-    let left :  Left of c.args.stream (skip_unordered (own of c.args.stream) c.args.new_cumulative_tsn) c.skip_unordered-left.result (rows_of frags_most c.skip_unordered-left.new.table) c.skip_unordered-left.new.pool = unordered-left of ok full c.args.stream here c.among_all-place.ensures.queue_value c.args.new_cumulative_tsn c.skip_unordered-left.ensures in
+    let left : Left of c.args.stream (skip_unordered (own of c.args.stream) c.args.new_cumulative_tsn) c.skip_unordered-left.result (rows_of frags_most c.skip_unordered-left.new.table) c.skip_unordered-left.new.pool = unordered-left of ok full c.args.stream here c.among_all-place.ensures.queue_value c.args.new_cumulative_tsn c.skip_unordered-left.ensures in
     left_is of ok full c.args.stream here left c.among_all-place.ensures.others c.put_back.ensures

@@ -39,7 +39,7 @@ overflow_add-result c =
     omega (arith, fits, c.oldest_finished-k.ensures)
 
 pub returns-then-own-gt0 : goal.returns-then-own-gt0
-returns-then-own-gt0 c =
+returns-then-own-gt0 c pool e =
     let of : List ℕ → State = λ pool. state_of c.args.streams c.args.table.now pool in
     let sized : length c.args.table.now ≡ 4 * frags_most = search rules in
     let full : (pool : List ℕ) → length (of pool).rows ≡ frags_most = λ pool. rows_long frags_most c.args.table.now sized in
@@ -78,7 +78,7 @@ overflow_add-result-2 c =
     omega (arith, fits, front_few, c.ready-run.ensures.0)
 
 pub returns : goal.returns
-returns c =
+returns c pool e =
     let of : List ℕ → State = λ pool. state_of c.args.streams c.args.table.now pool in
     let sized : length c.args.table.now ≡ 4 * frags_most = search rules in
     let full : (pool : List ℕ) → length (of pool).rows ≡ frags_most = λ pool. rows_long frags_most c.args.table.now sized in

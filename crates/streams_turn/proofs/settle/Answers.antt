@@ -11,7 +11,11 @@ use Rattle.streams_turn.proofs.settle.Goals as goal
 pub without-requires : goal.without-requires
 without-requires c =
     let told : took_told c.args.left.answer ≡ says none (message_held c.in-Message.hand) = ap took_told c.in-Message.is in
-    c.requires.size_bound (came c.in-Message.hand told)
+    let whole = c.requires.size_bound (came c.in-Message.hand told) in
+    record {
+      bytes_bound = whole.0;
+      k_bound = whole.1;
+    }
 
 pub returns-in-Message : goal.returns-in-Message
 returns-in-Message c =
@@ -19,7 +23,7 @@ returns-in-Message c =
     let g = c.args in
     record {
       answer_value = sym told;
-      streams_value = c.with.ensures ∙ ap (set (queues_of g.streams) g.stream) c.without.ensures ∙ came-set c.in-Message.hand told g.own_val g.left.k g.left.size (queues_of g.streams) g.stream;
+      streams_value = c.with.ensures ∙ ap (set (queues_of g.streams) g.stream) c.without.ensures ∙ came-set c.in-Message.hand told g.own g.left.k g.left.size (queues_of g.streams) g.stream;
     }
 
 pub returns-in-Nothing : goal.returns-in-Nothing

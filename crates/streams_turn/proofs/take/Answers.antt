@@ -45,7 +45,7 @@ pub overflow_sub-k : goal.overflow_sub-k
 overflow_sub-k c =
     let of = state_of c.args.streams c.args.table.now c.args.pool.now in
     let safe : unsound of ≡ false = search rules in
-    let turned :  Turned of c.args.stream c.in_turn-turn.result.from c.in_turn-turn.result.to = c.in_turn-turn.ensures c.args.pool.now safe in
+    let turned : Turned of c.args.stream c.in_turn-turn.result.from c.in_turn-turn.result.to = c.in_turn-turn.ensures c.args.pool.now safe in
     turned.upward
 
 pub returns-then-k-eq0 : goal.returns-then-k-eq0
@@ -56,14 +56,14 @@ returns-then-k-eq0 c =
     let sized : length c.args.table.now ≡ 4 * frags_most = search rules in
     let full : length of.rows ≡ frags_most = rows_long frags_most c.args.table.now sized in
     let here : c.args.stream < streams_most = search rules in
-    let turned :  Turned of c.args.stream c.in_turn-turn.result.from c.in_turn-turn.result.to = c.in_turn-turn.ensures c.args.pool.now safe in
+    let turned : Turned of c.args.stream c.in_turn-turn.result.from c.in_turn-turn.result.to = c.in_turn-turn.ensures c.args.pool.now safe in
     takes-nothing of ok full c.args.stream here c.args.buffer.now (sym turned.run_is ∙ c.if-k-eq0.true)
 
 pub take_run-requires : goal.take_run-requires
 take_run-requires c =
     let of = state_of c.args.streams c.args.table.now c.args.pool.now in
     let safe : unsound of ≡ false = search rules in
-    let turned :  Turned of c.args.stream c.in_turn-turn.result.from c.in_turn-turn.result.to = c.in_turn-turn.ensures c.args.pool.now safe in
+    let turned : Turned of c.args.stream c.in_turn-turn.result.from c.in_turn-turn.result.to = c.in_turn-turn.ensures c.args.pool.now safe in
     let sized : length c.args.table.now ≡ 4 * frags_most = search rules in
     let here : c.args.stream < streams_most = search rules in
     let up : c.in_turn-turn.result.from + (c.in_turn-turn.result.to - c.in_turn-turn.result.from) ≡ c.in_turn-turn.result.to = omega (arith, turned.upward) in

@@ -142,7 +142,7 @@ settle-requires c =
     let front : c.args.place.queue ≡ among_none of.queues c.args.stream = search rules in
     let others : let p = c.args.place in Others of.queues c.args.stream p.before.rows p.before.bytes p.behind.rows p.behind.bytes = search rules in
     let all-rows : count c.args.place.queue + c.args.place.behind.rows ≡ rows_held of.queues = let e = ap count front in omega (arith, e, others.rows_behind_is, rows_split of ok full c.args.stream here) in
-    let taken_out_lem :  let r = c.take_among-left.result in out (took_told r.answer) r.k r.size (rows_of frags_most c.take_among-left.new.table) c.take_among-left.new.pool c.take_among-left.new.buffer ≡ taken_out (eqb c.at-own.result.finished 0) c.args.from c.args.k (fragments of) of.rows of.pool c.args.buffer.now = c.take_among-left.ensures ∙ ap (λ (n : ℕ). taken_out (eqb c.at-own.result.finished 0) c.args.from c.args.k (cut (take n of.rows) of.pool) of.rows of.pool c.args.buffer.now) all-rows in
+    let taken_out_lem : let r = c.take_among-left.result in out (took_told r.answer) r.k r.size (rows_of frags_most c.take_among-left.new.table) c.take_among-left.new.pool c.take_among-left.new.buffer ≡ taken_out (eqb c.at-own.result.finished 0) c.args.from c.args.k (fragments of) of.rows of.pool c.args.buffer.now = c.take_among-left.ensures ∙ ap (λ (n : ℕ). taken_out (eqb c.at-own.result.finished 0) c.args.from c.args.k (cut (take n of.rows) of.pool) of.rows of.pool c.args.buffer.now) all-rows in
     record {
       stream_lt_streams_most = here;
       size_bound = λ e. fits_own c.at-own.ensures (message_fits of ok full c.args.stream here c.args.buffer.now more turned.from_is many kind taken_out_lem e);
@@ -164,5 +164,5 @@ returns c =
     let front : c.args.place.queue ≡ among_none of.queues c.args.stream = search rules in
     let others : let p = c.args.place in Others of.queues c.args.stream p.before.rows p.before.bytes p.behind.rows p.behind.bytes = search rules in
     let all-rows : count c.args.place.queue + c.args.place.behind.rows ≡ rows_held of.queues = let e = ap count front in omega (arith, e, others.rows_behind_is, rows_split of ok full c.args.stream here) in
-    let taken_out_lem :  let r = c.take_among-left.result in out (took_told r.answer) r.k r.size (rows_of frags_most c.take_among-left.new.table) c.take_among-left.new.pool c.take_among-left.new.buffer ≡ taken_out (eqb c.at-own.result.finished 0) c.args.from c.args.k (fragments of) of.rows of.pool c.args.buffer.now = c.take_among-left.ensures ∙ ap (λ (n : ℕ). taken_out (eqb c.at-own.result.finished 0) c.args.from c.args.k (cut (take n of.rows) of.pool) of.rows of.pool c.args.buffer.now) all-rows in
+    let taken_out_lem : let r = c.take_among-left.result in out (took_told r.answer) r.k r.size (rows_of frags_most c.take_among-left.new.table) c.take_among-left.new.pool c.take_among-left.new.buffer ≡ taken_out (eqb c.at-own.result.finished 0) c.args.from c.args.k (fragments of) of.rows of.pool c.args.buffer.now = c.take_among-left.ensures ∙ ap (λ (n : ℕ). taken_out (eqb c.at-own.result.finished 0) c.args.from c.args.k (cut (take n of.rows) of.pool) of.rows of.pool c.args.buffer.now) all-rows in
     settled of ok full c.args.stream here c.args.buffer.now more turned.from_is many kind taken_out_lem c.settle.ensures.answer_value c.at-own.ensures c.settle.ensures.streams_value

@@ -51,8 +51,14 @@ put_back-requires c =
     let ok : Sound of = sound of (search rules) in
     let full : length of.rows ≡ frags_most = rows_long frags_most c.args.table.now (search rules) in
     let new = fragment_of c.args.chunk c.args.user_data.now in
-    let left :  Left of c.args.stream (push_unordered c.args.room (own of c.args.stream) new).queue c.push-left.result.queue (rows_of frags_most c.push-left.new.table) c.push-left.new.pool = unordered-left of ok full c.args.stream here c.among_all-among.ensures.queue_value c.args.room new c.push-left.ensures in
-    (here, left_fits of ok full c.args.stream here left c.among_all-among.ensures.others)
+    let left : Left of c.args.stream (push_unordered c.args.room (own of c.args.stream) new).queue c.push-left.result.queue (rows_of frags_most c.push-left.new.table) c.push-left.new.pool = unordered-left of ok full c.args.stream here c.among_all-among.ensures.queue_value c.args.room new c.push-left.ensures in
+    let rest = left_fits of ok full c.args.stream here left c.among_all-among.ensures.others in
+    record {
+      stream_lt_streams_most = here;
+      rows_le_finished = rest.0;
+      rows_le_ordered = rest.1.0;
+      bytes_bound = rest.1.1;
+    }
 
 pub returns : goal.returns
 returns c =
@@ -61,7 +67,7 @@ returns c =
     let full : length of.rows ≡ frags_most = rows_long frags_most c.args.table.now (search rules) in
     let here : c.args.stream < streams_most = search rules in
     let new = fragment_of c.args.chunk c.args.user_data.now in
-    let left :  Left of c.args.stream (push_unordered c.args.room (own of c.args.stream) new).queue c.push-left.result.queue (rows_of frags_most c.push-left.new.table) c.push-left.new.pool = unordered-left of ok full c.args.stream here c.among_all-among.ensures.queue_value c.args.room new c.push-left.ensures in
+    let left : Left of c.args.stream (push_unordered c.args.room (own of c.args.stream) new).queue c.push-left.result.queue (rows_of frags_most c.push-left.new.table) c.push-left.new.pool = unordered-left of ok full c.args.stream here c.among_all-among.ensures.queue_value c.args.room new c.push-left.ensures in
     let told = unordered-told of ok full c.args.stream here c.among_all-among.ensures.queue_value c.args.room new c.push-left.ensures in
     let state = left_is of ok full c.args.stream here left c.among_all-among.ensures.others c.put_back.ensures in
     both told state

@@ -22,4 +22,4 @@ loop-i-preserved c =
     (omega arith, refl, rw (rows_more (rows_of n ws) a.from i (omega arith), some-snoc, ← c.loop-i.invariant.2, ← (tsn-at n ws long (a.from + i) (omega arith) {q = n + a.from + i} (omega arith)), ← c.sna32lt-earlier.ensures))
 
 pub returns : goal.returns
-returns c =  let e : c.loop-i.i ≡ c.args.n = omega arith in rw e at c.loop-i.invariant.2
+returns c = let e : c.loop-i.i ≡ c.args.n = omega arith in rw e at c.loop-i.invariant.2

@@ -12,29 +12,29 @@ use Rattle.set_reach.specs.Applicable.{ends_part, found_in}
 use Rattle.reassembly_applicable.proofs.part.highest_part.Goals as goal
 
 pub loop-i-init : goal.loop-i-init
-loop-i-init c =  keeping_none (higher 16) (ends_part c.args.expected c.args.last_ssn c.args.tsn c.args.peer_last_tsn) frags_most c.args.table.now c.args.from c.args.n 0 c.requires.table_len c.requires.n_bound
+loop-i-init c = keeping_none (higher 16) (ends_part c.args.expected c.args.last_ssn c.args.tsn c.args.peer_last_tsn) frags_most c.args.table.now c.args.from c.args.n 0 c.requires.table_len c.requires.n_bound
 
 pub overflow_add-at : goal.overflow_add-at
 overflow_add-at c = omega (arith, c.loop-i.invariant.pass.within)
 
 pub overflow_add-i : goal.overflow_add-i
 overflow_add-i c =
-    let rows_fit :  (0 < c.set_at-k.result) × (c.loop-i.i + c.set_at-k.result ≤ c.args.n) = set_fits c.loop-i.invariant.pass (omega arith) c.set_at-k.ensures in
+    let rows_fit : (0 < c.set_at-k.result) × (c.loop-i.i + c.set_at-k.result ≤ c.args.n) = set_fits c.loop-i.invariant.pass (omega arith) c.set_at-k.ensures in
     omega (arith, rows_fit)
 
 pub ends_part-requires : goal.ends_part-requires
 ends_part-requires c =
-    let rows_fit :  (0 < c.set_at-k.result) × (c.loop-i.i + c.set_at-k.result ≤ c.args.n) = set_fits c.loop-i.invariant.pass (omega arith) c.set_at-k.ensures in
+    let rows_fit : (0 < c.set_at-k.result) × (c.loop-i.i + c.set_at-k.result ≤ c.args.n) = set_fits c.loop-i.invariant.pass (omega arith) c.set_at-k.ensures in
     omega (arith, rows_fit)
 
 pub row_at-first-requires : goal.row_at-first-requires
 row_at-first-requires c =
-    let rows_fit :  (0 < c.set_at-k.result) × (c.loop-i.i + c.set_at-k.result ≤ c.args.n) = set_fits c.loop-i.invariant.pass (omega arith) c.set_at-k.ensures in
+    let rows_fit : (0 < c.set_at-k.result) × (c.loop-i.i + c.set_at-k.result ≤ c.args.n) = set_fits c.loop-i.invariant.pass (omega arith) c.set_at-k.ensures in
     omega (arith, rows_fit)
 
 pub loop-i-smaller-then-ends_part : goal.loop-i-smaller-then-ends_part
 loop-i-smaller-then-ends_part c =
-    let rows_fit :  (0 < c.set_at-k.result) × (c.loop-i.i + c.set_at-k.result ≤ c.args.n) = set_fits c.loop-i.invariant.pass (omega arith) c.set_at-k.ensures in
+    let rows_fit : (0 < c.set_at-k.result) × (c.loop-i.i + c.set_at-k.result ≤ c.args.n) = set_fits c.loop-i.invariant.pass (omega arith) c.set_at-k.ensures in
     omega (arith, rows_fit)
 
 pub loop-i-preserved-then-ends_part : goal.loop-i-preserved-then-ends_part
@@ -42,7 +42,7 @@ loop-i-preserved-then-ends_part c = keeping_one c.loop-i.invariant (omega arith)
 
 pub loop-i-smaller : goal.loop-i-smaller
 loop-i-smaller c =
-    let rows_fit :  (0 < c.set_at-k.result) × (c.loop-i.i + c.set_at-k.result ≤ c.args.n) = set_fits c.loop-i.invariant.pass (omega arith) c.set_at-k.ensures in
+    let rows_fit : (0 < c.set_at-k.result) × (c.loop-i.i + c.set_at-k.result ≤ c.args.n) = set_fits c.loop-i.invariant.pass (omega arith) c.set_at-k.ensures in
     omega (arith, rows_fit)
 
 pub loop-i-preserved : goal.loop-i-preserved

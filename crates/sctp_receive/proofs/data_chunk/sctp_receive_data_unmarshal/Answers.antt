@@ -6,7 +6,7 @@ use Rattle.sctp_receive.proofs.data_chunk.sctp_receive_data_unmarshal.Goals as g
 
 pub returns-in-Fields : goal.returns-in-Fields
 unfolding data_held
-returns-in-Fields c = rw (← (c.unmarshal-answer.ensures f), c.in-Fields.is)
+returns-in-Fields c f = rw (← (c.unmarshal-answer.ensures f), c.in-Fields.is)
 
 pub returns-in-Refused : goal.returns-in-Refused
-returns-in-Refused c = rw (← (c.unmarshal-answer.ensures f), c.in-Refused.is, says_refuse c.in-Refused.k (omega arith))
+returns-in-Refused c f = rw (← (c.unmarshal-answer.ensures f), c.in-Refused.is, says_refuse c.in-Refused.k (omega arith))

@@ -3,4 +3,4 @@ use mathlib.Core.Path.{◌∙◌}
 use Rattle.sctp_receive.proofs.inflight.sctp_receive_inflight_queue_get_num_bytes.Goals as goal
 
 pub returns : goal.returns
-returns c = c.number.ensures ∙ c.get_num_bytes-answer.ensures ms
+returns c ms = c.number.ensures ∙ c.get_num_bytes-answer.ensures ms

@@ -3,4 +3,4 @@ use mathlib.Core.Path.{◌∙◌}
 use Rattle.sctp_receive.proofs.inflight.sctp_receive_inflight_queue_is_empty.Goals as goal
 
 pub returns : goal.returns
-returns c = c.flag.ensures ∙ c.is_empty-answer.ensures ms
+returns c ms = c.flag.ensures ∙ c.is_empty-answer.ensures ms

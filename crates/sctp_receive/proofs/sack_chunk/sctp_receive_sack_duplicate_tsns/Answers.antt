@@ -11,13 +11,13 @@ use Rattle.sctp_receive.proofs.sack_chunk.sctp_receive_sack_duplicate_tsns.Goals
 
 pub returns-in-Fields : goal.returns-in-Fields
 unfolding duplicates_span sack_held
-returns-in-Fields c =
+returns-in-Fields c f =
     let r = c.unmarshal-answer in
     let t = sack-taken (length c.args.raw.now) f.fields r.result (r.ensures f) c.in-Fields.is in
     rw (t.0, ← (ap (λ (x : Sack). x.blocks) t.1), ← (ap (λ (x : Sack). x.duplicates) t.1))
 
 pub returns-in-Refused : goal.returns-in-Refused
 unfolding duplicates_span
-returns-in-Refused c =
+returns-in-Refused c f =
     let r = c.unmarshal-answer in
     rw (sack-refused (length c.args.raw.now) f.fields r.result (r.ensures f) c.in-Refused.is, says_refuse c.in-Refused.k (omega arith))
