@@ -213,18 +213,18 @@ pub record Walked (s : State) (q : Queue) (calls : List Call) : Type 0 where
   pub answered : model.Unrefused q (events calls) → Unrefused s calls
 
 pub walk : {s : State} {q : Queue} → Holds s q → (calls : List Call) → Each (Of q.si) (pushes calls) → Roomy s calls → Long s calls → Walked s q calls
-walk h [] o r l = record { holds = h; roomy = tt; came = refl; answered = λ u. tt }
-walk {s} {q} h (Push c ∷ cs) o r l =
-    let w = walk (push_holds h c o.0) cs (rw (push-own q _ (frag_of c) q.si c.fields.unordered).is o.1) r.1 l in
+walk {s = s} h [] o r l = record { holds = h; roomy = tt; came = refl; answered = λ u. tt }
+walk {s = s} {q = q} h (Push c ∷ cs) o r l =
+    let w = walk {s = after_push s c} (push_holds h c o.0) cs (rw (push-own q _ (frag_of c) q.si c.fields.unordered).is o.1) r.1 l in
     record {
       holds = w.holds;
       roomy = (rw h.seen at r.0, w.roomy);
       came = w.came;
       answered = λ u. (rw (push-told h c o.0) u.0, w.answered u.1);
     }
-walk {s} {q} h (Take b ∷ cs) o r l =
+walk {s = s} {q = q} h (Take b ∷ cs) o r l =
     let k = long_for h b l.0 in
-    let w = walk (take_holds h b k) cs (rw (take_own q).is o) r l.1 in
+    let w = walk {s = (read s b).state} (take_holds h b k) cs (rw (take_own q).is o) r l.1 in
     record {
       holds = w.holds;
       roomy = w.roomy;
@@ -252,10 +252,10 @@ Long_on q (Push c ∷ cs) = Long_on (model.after_push q (piece_of c)) cs
 Long_on q (Take b ∷ cs) = (size (turn q).frags ≤ length b) × Long_on (model.after_take q) cs
 
 pub back : {s : State} {q : Queue} → Holds s q → (calls : List Call) → Each (Of q.si) (pushes calls) → model.Roomy q (events calls) → Long_on q calls → Roomy s calls × Long s calls
-back h [] o r l = (tt, tt)
-back {s} {q} h (Push c ∷ cs) o r l =
-    let k = back (push_holds h c o.0) cs (rw (push-own q _ (frag_of c) q.si c.fields.unordered).is o.1) r.1 l in
+back {s = s} h [] o r l = (tt, tt)
+back {s = s} {q = q} h (Push c ∷ cs) o r l =
+    let k = back {s = after_push s c} (push_holds h c o.0) cs (rw (push-own q _ (frag_of c) q.si c.fields.unordered).is o.1) r.1 l in
     ((rw h.seen r.0, k.0), k.1)
-back {s} {q} h (Take b ∷ cs) o r l =
-    let k = back (take_holds h b (λ e. l.0)) cs (rw (take_own q).is o) r l.1 in
+back {s = s} {q = q} h (Take b ∷ cs) o r l =
+    let k = back {s = (read s b).state} (take_holds h b (λ e. l.0)) cs (rw (take_own q).is o) r l.1 in
     (k.0, (λ e. rw h.seen l.0, k.1))

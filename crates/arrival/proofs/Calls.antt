@@ -10,7 +10,7 @@ use Rattle.wire_model.specs.Refusal.{none, Told, says}
 use Rattle.fragments.specs.Words.{size}
 use Rattle.reassembly_state.specs.Limits.{frags_most, bytes_most}
 use Rattle.reassembly_state.specs.Model.{Queue, held, readable}
-use Rattle.reassembly_state.specs.State.{State, fragments, is_readable}
+use Rattle.reassembly_state.specs.State.{read, State, fragments, is_readable}
 use Rattle.reassembly_queue.specs.Queue.{state_of, fresh}
 use Rattle.reassembly_state.proofs.Laws.{held-view}
 use Rattle.reassembly_theorems.proofs.Stays.{bytes-told}
@@ -51,13 +51,13 @@ final-takes q (Take b ∷ cs) bs = final-takes (model.after_take q) cs bs
 -- what holds of a run holds of its front
 roomy-front : (s : State) (cs ds : List Call) → Roomy s (cs ++ ds) → Roomy s cs
 roomy-front s [] ds r = tt
-roomy-front s (Push c ∷ cs) ds r = (r.0, roomy-front _ cs ds r.1)
-roomy-front s (Take b ∷ cs) ds r = roomy-front _ cs ds r
+roomy-front s (Push c ∷ cs) ds r = (r.0, roomy-front (after_push s c) cs ds r.1)
+roomy-front s (Take b ∷ cs) ds r = roomy-front (read s b).state cs ds r
 
 long-front : (s : State) (cs ds : List Call) → Long s (cs ++ ds) → Long s cs
 long-front s [] ds l = tt
-long-front s (Push c ∷ cs) ds l = long-front _ cs ds l
-long-front s (Take b ∷ cs) ds l = (l.0, long-front _ cs ds l.1)
+long-front s (Push c ∷ cs) ds l = long-front (after_push s c) cs ds l
+long-front s (Take b ∷ cs) ds l = (l.0, long-front (read s b).state cs ds l.1)
 
 -- ── the theorem ──
 

@@ -1,6 +1,6 @@
 -- A plan of chunks is a plan of the model: a chunk's fragment says what the chunk says.
 -- Assumes nothing.
-use mathlib.Core.Path.{◌≡◌, refl, ap, ◌∙◌}
+use mathlib.Core.Path.{◌≡◌, refl, ap, subst, ◌∙◌}
 use mathlib.Core.Bool.{Bool, true, false}
 use mathlib.Core.List.{List, [], ◌∷◌, ◌++◌, map}
 use mathlib.Core.Logic.{◌⊎◌, inl, inr}
@@ -158,7 +158,7 @@ module _ (base : ℕ) where
   there : (o i : ℕ) (cs : List Chunk) → Runs base o cs → i < length cs → Absent (model.tsn_at base (o + i)) cs → ⊥
   there o i [] h k a = absurd (omega arith)
   there o zero (c ∷ cs) h k a = let e : o + 0 ≡ o = omega arith in a.0 (rw e h.0)
-  there o (suc i) (c ∷ cs) h k a = let e : o + suc i ≡ suc o + i = omega arith in there (suc o) i cs h.1 (omega arith) (rw e at a.1)
+  there o (suc i) (c ∷ cs) h k a = let e : o + suc i ≡ suc o + i = omega arith in there (suc o) i cs h.1 (omega arith) (subst (λ (n : ℕ). Absent (model.tsn_at base n) cs) e a.1)
 
   elsewhere : (o i : ℕ) (ks cs : List Chunk) → Runs base o cs → i < length cs → Each (Out ks) cs → Absent (model.tsn_at base (o + i)) ks
   elsewhere o i ks [] h k a = absurd (omega arith)

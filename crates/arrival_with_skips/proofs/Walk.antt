@@ -15,7 +15,7 @@ use Rattle.arrival.specs.Calls.{Came, given}
 use Rattle.arrival_plan.proofs.Maps.{Each}
 use Rattle.arrival.proofs.Planned.{frag_of, piece_of, Of}
 use Rattle.arrival.proofs.Bridge.{Holds, push-own, take_own, laid_holds, push_holds, push-told, read_is, told, given_is, take_unrefused, long_for, take_holds}
-use Rattle.arrival_with_skips.specs.Skips.{Call, Push, Take, SkipOrdered, SkipUnordered, refusal, ran, out, AtEach, pushes, Roomy, Long}
+use Rattle.arrival_with_skips.specs.Skips.{Call, Push, Take, SkipOrdered, SkipUnordered, refusal, ran, out, AtEach, pushes, Roomy, Long, left}
 use Rattle.skips_plan.proofs.Runs as model
 
 -- ── a skip ──
@@ -70,18 +70,18 @@ pub record Walked (s : State) (q : Queue) (calls : List Call) : Type 0 where
   pub answered : model.AtEach model.Quiet q (events calls) → AtEach Unrefused s calls
 
 pub follow : {s : State} {q : Queue} → Holds s q → (calls : List Call) → Each (Of q.si) (pushes calls) → AtEach Roomy s calls → AtEach Long s calls → Walked s q calls
-follow h [] o r l = record { holds = h; roomy = tt; came = refl; answered = λ u. tt }
-follow {s} {q} h (Push c ∷ cs) o r l =
-    let w = follow (push_holds h c o.0) cs (rw (push-own q _ (frag_of c) q.si c.fields.unordered).is o.1) r.1 l.1 in
+follow {s = s} h [] o r l = record { holds = h; roomy = tt; came = refl; answered = λ u. tt }
+follow {s = s} {q = q} h (Push c ∷ cs) o r l =
+    let w = follow {s = left s (Push c)} (push_holds h c o.0) cs (rw (push-own q _ (frag_of c) q.si c.fields.unordered).is o.1) r.1 l.1 in
     record {
       holds = w.holds;
       roomy = (rw h.seen at r.0, w.roomy);
       came = w.came;
       answered = λ u. (ap (λ (t : Told Bool). t.refusal) (push-told h c o.0) ∙ u.0, w.answered u.1);
     }
-follow {s} {q} h (Take b ∷ cs) o r l =
+follow {s = s} {q = q} h (Take b ∷ cs) o r l =
     let k = long_for h b l.0 in
-    let w = follow (take_holds h b k) cs (rw (take_own q).is o) r.1 l.1 in
+    let w = follow {s = left s (Take b)} (take_holds h b k) cs (rw (take_own q).is o) r.1 l.1 in
     let later = model.out (model.after q model.Take) (events cs) in
     record {
       holds = w.holds;
@@ -89,16 +89,16 @@ follow {s} {q} h (Take b ∷ cs) o r l =
       came = ap (λ (ms : List Came). given (read s b) ms) w.came ∙ ap (λ (g : Read). given g (map told later)) (read_is h b) ∙ given_is q b k s later;
       answered = λ u. (ap (λ (g : Read). g.told.refusal) (read_is h b) ∙ take_unrefused q b k, w.answered u.1);
     }
-follow {s} {q} h (SkipOrdered k ∷ cs) o r l =
-    let w = follow (ordered_holds h k) cs (rw (ordered-own q k) o) r.1 l.1 in
+follow {s = s} {q = q} h (SkipOrdered k ∷ cs) o r l =
+    let w = follow {s = left s (SkipOrdered k)} (ordered_holds h k) cs (rw (ordered-own q k) o) r.1 l.1 in
     record {
       holds = w.holds;
       roomy = (tt, w.roomy);
       came = w.came;
       answered = λ u. (ap (λ (a : After Bool). a.told.refusal) (ordered-is h k), w.answered u.1);
     }
-follow {s} {q} h (SkipUnordered k ∷ cs) o r l =
-    let w = follow (unordered_holds h k) cs (rw (unordered-own q k) o) r.1 l.1 in
+follow {s = s} {q = q} h (SkipUnordered k ∷ cs) o r l =
+    let w = follow {s = left s (SkipUnordered k)} (unordered_holds h k) cs (rw (unordered-own q k) o) r.1 l.1 in
     record {
       holds = w.holds;
       roomy = (tt, w.roomy);
@@ -117,12 +117,12 @@ Long_on q (SkipUnordered k ∷ cs) = Long_on (skip_unordered q k) cs
 
 pub back : {s : State} {q : Queue} → Holds s q → (calls : List Call) → Each (Of q.si) (pushes calls) → model.AtEach model.Room q (events calls) → Long_on q calls
     → AtEach Roomy s calls × AtEach Long s calls
-back h [] o r l = (tt, tt)
-back {s} {q} h (Push c ∷ cs) o r l =
-    let k = back (push_holds h c o.0) cs (rw (push-own q _ (frag_of c) q.si c.fields.unordered).is o.1) r.1 l in
+back {s = s} h [] o r l = (tt, tt)
+back {s = s} {q = q} h (Push c ∷ cs) o r l =
+    let k = back {s = left s (Push c)} (push_holds h c o.0) cs (rw (push-own q _ (frag_of c) q.si c.fields.unordered).is o.1) r.1 l in
     ((rw h.seen r.0, k.0), (tt, k.1))
-back {s} {q} h (Take b ∷ cs) o r l =
-    let k = back (take_holds h b (λ e. l.0)) cs (rw (take_own q).is o) r.1 l.1 in
+back {s = s} {q = q} h (Take b ∷ cs) o r l =
+    let k = back {s = left s (Take b)} (take_holds h b (λ e. l.0)) cs (rw (take_own q).is o) r.1 l.1 in
     ((tt, k.0), (λ e. rw h.seen l.0, k.1))
-back {s} {q} h (SkipOrdered n ∷ cs) o r l = let k = back (ordered_holds h n) cs (rw (ordered-own q n) o) r.1 l in ((tt, k.0), (tt, k.1))
-back {s} {q} h (SkipUnordered n ∷ cs) o r l = let k = back (unordered_holds h n) cs (rw (unordered-own q n) o) r.1 l in ((tt, k.0), (tt, k.1))
+back {s = s} {q = q} h (SkipOrdered n ∷ cs) o r l = let k = back {s = left s (SkipOrdered n)} (ordered_holds h n) cs (rw (ordered-own q n) o) r.1 l in ((tt, k.0), (tt, k.1))
+back {s = s} {q = q} h (SkipUnordered n ∷ cs) o r l = let k = back {s = left s (SkipUnordered n)} (unordered_holds h n) cs (rw (unordered-own q n) o) r.1 l in ((tt, k.0), (tt, k.1))

@@ -1,7 +1,7 @@
 -- The words of the bench sheet, said by the definitions that the promises of the calls cite.
 -- Assumes nothing.
 use Rattle.std.specs.Prelude.{◌≡◌, Bool, true, false, List, [], ◌∷◌, ℕ, zero, suc, ◌+◌, ℤ, pos, ◌-ℤ◌, length, replicate}
-use denote.Ref.{MutBor, at_last}
+use Rattle.std.specs.Borrow.{Bor}
 use Rattle.wire_model.specs.Refusal.{Told}
 use Rattle.chunk.specs.Header.{HeaderFront}
 use Rattle.chunk.specs.Part.{Part}
@@ -61,15 +61,15 @@ abbrev pub duplicate_tsn_at : List ℕ → ℕ → Call (Told ℕ)
 duplicate_tsn_at part i = record { Answer = DuplicateTsnAt; Fields = TsnFront part i; told = tsn_told; promised = λ f. tsn_read part i f.fields }
 
 -- the parts of the bytes raw, which lie where `lent` points
-module _ (lent : MutBor (List ℕ)) where
+module _ (lent : Bor (List ℕ)) where
   abbrev pub user_data_call : List ℕ → Call Part
-  user_data_call raw = record { Answer = Part; Fields = HeaderFront raw; told = λ p. p; promised = λ f. user_data (at_last lent raw) f.fields }
+  user_data_call raw = record { Answer = Part; Fields = HeaderFront raw; told = λ p. p; promised = λ f. user_data (record lent { now = raw }) f.fields }
 
   abbrev pub gap_ack_blocks : List ℕ → Call Part
-  gap_ack_blocks raw = record { Answer = Part; Fields = SackFront raw; told = λ p. p; promised = λ f. blocks_part (at_last lent raw) f.fields }
+  gap_ack_blocks raw = record { Answer = Part; Fields = SackFront raw; told = λ p. p; promised = λ f. blocks_part (record lent { now = raw }) f.fields }
 
   abbrev pub duplicate_tsns_call : List ℕ → Call Part
-  duplicate_tsns_call raw = record { Answer = Part; Fields = SackFront raw; told = λ p. p; promised = λ f. duplicates_part (at_last lent raw) f.fields }
+  duplicate_tsns_call raw = record { Answer = Part; Fields = SackFront raw; told = λ p. p; promised = λ f. duplicates_part (record lent { now = raw }) f.fields }
 
   -- not refused: these bytes, which lie from byte start on
   abbrev pub part-from : ℕ → List ℕ → Part

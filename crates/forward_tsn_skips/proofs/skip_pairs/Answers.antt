@@ -1,6 +1,5 @@
 -- `forward_tsn_skips::skip_pairs` meets its contract: after i turns what is left to skip are the pairs from i on.
 use mathlib.Core.Path.{refl, sym, ◌∙◌}
-use Prim.Native.Nat.{◌-◌}
 use borrow.Author.Rules.{rules}
 use native.Mathlib.Omega.{arith}
 use Rattle.forward_tsn_skips.proofs.Skips.{pair-front, skip_turn, skip_done}
@@ -19,4 +18,4 @@ loop-i-preserved c =
     )
 
 pub returns : goal.returns
-returns c = sym (skip_done c.args.part.now f c.loop-i.i (omega arith) _) ∙ c.loop-i.invariant.2 f
+returns c f = sym (skip_done c.args.part.now f c.loop-i.i (omega arith) _) ∙ c.loop-i.invariant.2 f
