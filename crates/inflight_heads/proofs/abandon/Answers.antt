@@ -1,7 +1,6 @@
 -- `inflight_heads::abandon` meets its contract: after i turns those of the first i rows are abandoned beside which the number stands.
 use mathlib.Core.Path.{◌≡◌, sym, ap, ◌∙◌}
 use mathlib.Core.Bool.{cond}
-use Prim.Native.Nat.{◌-◌}
 use native.Mathlib.Omega.{arith}
 use lib.Dec.{eqb}
 use lib.ListN.{length, get_or, take, length-set}

@@ -1,7 +1,6 @@
 -- `inflight_heads::mark_again` meets its contract: after i turns the first i rows are marked.
 use mathlib.Core.Path.{◌≡◌, sym, ap, ◌∙◌}
 use mathlib.Core.List.{map}
-use Prim.Native.Nat.{◌-◌}
 use native.Mathlib.Omega.{arith}
 use lib.ListN.{length, get_or, take, length-set, length-map}
 use lib.Seq.{length-take-le, get_or-take}

@@ -1,5 +1,4 @@
 -- `inflight_parts::close_numbers` meets its contract: the loop keeps `Closing`.
-use Prim.Native.Nat.{◌-◌}
 use native.Mathlib.Omega.{arith}
 use Rattle.moves_model.proofs.Moves.{closing_none, closing_turn, closing_done}
 use Rattle.inflight_parts.proofs.close_numbers.Goals as goal

@@ -1,7 +1,7 @@
 -- `inflight_parts::keep_numbers` meets its contract: after i turns the numbers beside the rows that stay of the first i stand at the front.
 use mathlib.Core.Path.{◌≡◌, refl, sym, ap, ◌∙◌}
 use mathlib.Core.Bool.{true, false, not}
-use Prim.Native.Nat.{◌-◌, ◌+◌}
+use Prim.Native.Nat.{◌+◌}
 use native.Mathlib.Omega.{arith}
 use lib.ListN.{get_or, length-set}
 use Rattle.table.specs.Rows.{blank, rows_of}

@@ -1,6 +1,5 @@
 -- `payload_parts::handed` meets its contract: after i turns the first i places of the log stand before the zeros.
 use mathlib.Core.Path.{◌≡◌, refl}
-use Prim.Native.Nat.{◌-◌}
 use native.Mathlib.Omega.{arith}
 use Rattle.wire_model.specs.BigEndian.{over}
 use Rattle.payload_model.proofs.Laws.{hand_turn}

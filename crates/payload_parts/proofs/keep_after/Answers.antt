@@ -1,7 +1,6 @@
 -- `payload_parts::keep_after` meets its contract: after i turns the rows that stay of the first i stand at the front.
 use mathlib.Core.Path.{◌≡◌, sym, ap, ◌∙◌}
-use mathlib.Core.Bool.{true, false, not}
-use Prim.Native.Nat.{◌-◌}
+use mathlib.Core.Bool.{not}
 use native.Mathlib.Omega.{arith}
 use Rattle.table.specs.Rows.{rows_of}
 use Rattle.table.proofs.Columns.{rows_long}

@@ -1,6 +1,5 @@
 -- `payload_pop::pop` meets its contract: an unsound queue is refused, and else the first record goes if its TSN is the one asked for.
 use mathlib.Core.Path.{◌≡◌, sym, ap, ◌∙◌}
-use mathlib.Core.Bool.{true, false}
 use Prim.Native.Nat.{◌<◌}
 use native.Mathlib.Omega.{arith}
 use borrow.Author.Tests.{eq-eqb, ne_eqb}

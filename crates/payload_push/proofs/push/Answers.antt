@@ -1,4 +1,5 @@
 -- `payload_push::push` meets its contract: an unsound queue is refused, then an opposite TSN; what is old or held is logged, a full table is refused, and else the
+-- record goes to its place.
 use mathlib.Core.Path.{◌≡◌, sym, ap, ◌∙◌}
 use mathlib.Core.Bool.{false}
 use Prim.Native.Nat.{◌^◌, ◌<◌, ◌≤◌}
