@@ -1,5 +1,6 @@
 // The calls of numbers that wrap, of headers, DATA, SACK and FORWARD TSN, of ERROR and ABORT, and of whole packets.
 #![tactic(auto)]
+
 mod causes;
 mod forward;
 mod numbers;

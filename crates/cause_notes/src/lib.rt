@@ -1,5 +1,6 @@
 // What is told of a cause that was read, put into a lent list.
 #![tactic(auto)]
+
 ghost use Rattle.std.specs.Prelude.{◌≡◌, ◌+◌, ◌-◌, ◌≤◌, [], ◌∷◌};
 ghost use Rattle.cause_parts.specs.Causes.{cause};
 ghost use Rattle.cause_parts.specs.Lists.{field_of, noted};

@@ -1,5 +1,6 @@
 // ABORT, RFC 4960 section 3.3.7: why a peer closes the association.
 #![tactic(auto)]
+
 ghost use Rattle.std.specs.Prelude.{◌≡◌};
 ghost use Rattle.cause_parts.specs.Lists.{lists};
 ghost use Rattle.error_causes.specs.Counts.{count_told};

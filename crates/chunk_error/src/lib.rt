@@ -1,5 +1,6 @@
 // ERROR, RFC 4960 section 3.3.10: the causes that a peer reports.
 #![tactic(auto)]
+
 ghost use Rattle.std.specs.Prelude.{◌≡◌};
 ghost use Rattle.cause_parts.specs.Lists.{lists};
 ghost use Rattle.error_causes.specs.Counts.{count_told};

@@ -1,5 +1,6 @@
 // The SACK chunk of RFC 4960 section 3.3.4: read here; its lists' entries, and the chunk written, are handed on.
 #![tactic(auto)]
+
 ghost use Rattle.std.specs.Prelude.{◌≡◌, length};
 ghost use Rattle.chunk.specs.Part.{part};
 ghost use Rattle.chunk_selective_ack.specs.Sack.{sack_told, SackFront, sack_read, blocks_part, duplicates_part};

@@ -1,5 +1,6 @@
 // A number of causes, taken apart for C. It is 0 beside a refusal.
 #![tactic(auto)]
+
 ghost use Rattle.std.specs.Prelude.{◌≡◌};
 ghost use Rattle.error_causes.specs.Counts.{count_told};
 ghost use Rattle.sctp_receive_result.specs.Result.{told, back};

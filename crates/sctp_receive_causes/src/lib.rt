@@ -1,5 +1,6 @@
 // What the C calls of ERROR and ABORT are made of. The count is 0 beside a refusal.
 #![tactic(auto)]
+
 ghost use Rattle.std.specs.Prelude.{◌≡◌};
 ghost use Rattle.cause_parts.specs.Lists.{lists};
 ghost use Rattle.cause_report.specs.Report.{report, reported};

@@ -1,6 +1,7 @@
 // What the codecs' C calls are made of: a writer's answer taken apart, and where the user data stands. The values go through references, 0 beside a refusal,
 // and the result is -1 or the refusal's number.
 #![tactic(auto)]
+
 ghost use Rattle.std.specs.Prelude.{◌≡◌, length};
 ghost use Rattle.chunk.specs.Header.{HeaderFront};
 ghost use Rattle.chunk.specs.Marshal.{marshal_told};

@@ -1,5 +1,6 @@
 // What the C calls that read a FORWARD TSN chunk are made of. Out values are 0 beside a refusal.
 #![tactic(auto)]
+
 ghost use Rattle.std.specs.Prelude.{◌≡◌, length};
 ghost use Rattle.chunk_forward_tsn.specs.ForwardTsn.{forward, ForwardFront, forward_read};
 ghost use Rattle.sctp_receive_result.specs.Result.{told, back};

@@ -1,5 +1,6 @@
 // What the C calls of a FORWARD TSN chunk's streams and SSNs are made of: one pair read, and the chunk written. Out values are 0 beside a refusal.
 #![tactic(auto)]
+
 ghost use Rattle.std.specs.Prelude.{◌≡◌};
 ghost use Rattle.wire_model.specs.Refusal.{written};
 ghost use Rattle.chunk_forward_tsn.specs.Layout.{pair};

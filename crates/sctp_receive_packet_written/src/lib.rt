@@ -1,5 +1,6 @@
 // What the C call is made of that writes a packet.
 #![tactic(auto)]
+
 ghost use Rattle.std.specs.Prelude.{◌≡◌};
 ghost use Rattle.wire_model.specs.Refusal.{written};
 ghost use Rattle.packet.specs.Layout.{common};

@@ -1,5 +1,6 @@
 // What the C call is made of that reads a packet's common header. Out values are 0 beside a refusal.
 #![tactic(auto)]
+
 ghost use Rattle.std.specs.Prelude.{◌≡◌};
 ghost use Rattle.packet.specs.Layout.{common};
 ghost use Rattle.packet.specs.Header.{CommonFront, common_read};
