@@ -13,13 +13,11 @@ use Rattle.packet_parts.specs.Fronts.{left_checks, rounded}
 use Rattle.cause_parts.specs.Causes.{Cause, cause, Reading, reading, onward, unless, cause_code, cause_size, cause_value, cause_checks, chunk_causes, causes, chunk_held}
 use Rattle.cause_parts.specs.Lists.{noted}
 use Rattle.cause_parts.specs.Facts.{causes_none, causes-step}
-use Rattle.cause_parts.specs.Fronts.{CauseThere, CausesThere}
+use Rattle.cause_parts.specs.Fronts.{CauseThere}
 use Rattle.cause_parts.specs.declared.CauseHeader.{CauseHeader}
 use Rattle.cause_parts.proofs.Fronts.{take-drop}
 use Rattle.cause_parts.proofs.Noted.{noted_none, noted_more}
-use Rattle.error_causes.specs.Counts.{counted, CountRoom, Placed}
-use Rattle.error_causes.specs.declared.Counted.{Counted}
-use Rattle.error_causes.specs.declared.Counted.TheVariants as counts
+use Rattle.error_causes.specs.Counts.{counted, Placed}
 
 -- ── what is counted ──
 
@@ -204,10 +202,3 @@ module _ (told depth at before : ℕ) (value l : List ℕ) where
 
   pub chunk-without : (first (left_checks value) ≡ none) × (chunk_causes value ≡ []) → Held (says none before)
   chunk-without e = ends-all told before l {cs = []} (sym (noted_none told before l)) (rw (e.0, e.1, causes_none (depth + 1) (at + 4))) (omega arith)
-
-pub chunk_with : (raw : List ℕ) (depth at : ℕ) {end : ℕ} → CausesThere raw at end → causes (depth + 1) (at + 4) (drop (at + 4) (take end raw)) ≡ chunk_held depth at (drop at raw)
-chunk_with raw depth at t = rw (t.passes, t.are)
-
-pub more_room : (r : Counted) {a b : ℕ} → a ≤ b → CountRoom a r → CountRoom b r
-more_room (counts.Causes n) h l = omega arith
-more_room (counts.Refused k) h l = tt

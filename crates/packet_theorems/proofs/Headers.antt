@@ -12,7 +12,7 @@ use Rattle.wire_model.specs.BigEndian.{over}
 use Rattle.wire_model.specs.Refusal.{Refusal, none, refuse, first, says, Written, written, written_if, when}
 use Rattle.wire.proofs.Reading.{begins_with, none_both}
 use Rattle.packet_body.specs.Lent.{cut, cut_checks, lent_checks, joined, body}
-use Rattle.packet.specs.Layout.{Common, common, CommonFits, common_bytes, checksum, packet}
+use Rattle.packet.specs.Layout.{Common, CommonFits, common_bytes, checksum, packet}
 use Rattle.packet.specs.Header.{Summed, CommonFront, common_told, common_read}
 use Rattle.packet.specs.declared.Unmarshalled.{Unmarshalled}
 use Rattle.packet_marshal.specs.Written.{packet_written}

@@ -1,14 +1,11 @@
 -- `cause_parts::chunk_at` meets its contract: the header in front of the value decides.
 use Prim.Native.Nat.{ℕ, ◌+◌, ◌<◌}
-use mathlib.Core.Path.{◌≡◌}
 use mathlib.Core.List.{List}
 use native.Mathlib.Omega.{arith}
-use lib.ListN.{length, get_or, drop, drop_of_length-le}
+use lib.ListN.{length, drop, drop_of_length-le}
 use lib.Seq.{get_or-drop}
-use Rattle.wire_model.specs.Refusal.{none, first}
 use Rattle.wire.proofs.Writing.{left-whole}
 use Rattle.wire.proofs.Exists.{Bytes}
-use Rattle.chunk.specs.Layout.{header}
 use Rattle.chunk.specs.Header.{HeaderFront}
 use Rattle.chunk.proofs.Headers.{told-refused, told-taken}
 use Rattle.packet_parts.specs.Fronts.{front_header, front_checks}

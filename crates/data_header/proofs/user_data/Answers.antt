@@ -1,26 +1,10 @@
 -- `data_header::user_data` meets its contract: the header decides what is refused, and else the part is what its length says.
 use mathlib.Core.Path.{ap}
-use Prim.Native.Nat.{◌≤◌}
 use lib.ListN.{length}
 use Rattle.chunk.specs.Layout.{Header}
 use Rattle.data_header.specs.Checks.{data_checks, user_data}
 use Rattle.chunk.proofs.Headers.{told-refused, told-taken}
 use Rattle.data_header.proofs.user_data.Goals as goal
-
-pub slice_bounds-result-count : goal.slice_bounds-result-count
-slice_bounds-result-count c =
-    let room : (let s = c.in-Header.h.length in (16 ≤ s) × (s ≤ length c.args.raw.now)) = rw c.in-Header.is at c.header-any.ensures.room in
-    room.0
-
-pub slice_bounds-result-start : goal.slice_bounds-result-start
-slice_bounds-result-start c =
-    let room : (let s = c.in-Header.h.length in (16 ≤ s) × (s ≤ length c.args.raw.now)) = rw c.in-Header.is at c.header-any.ensures.room in
-    room.0
-
-pub slice_bounds-result-end-in-Header : goal.slice_bounds-result-end-in-Header
-slice_bounds-result-end-in-Header c =
-    let room : (let s = c.in-Header.h.length in (16 ≤ s) × (s ≤ length c.args.raw.now)) = rw c.in-Header.is at c.header-any.ensures.room in
-    room.1
 
 pub returns-in-Refused : goal.returns-in-Refused
 unfolding user_data

@@ -1,7 +1,7 @@
 -- `entries::put_pairs` meets its contract: after i turns the first i entries stand at the front.
 use mathlib.Core.Path.{refl}
 use mathlib.Core.List.{◌++◌}
-use Prim.Native.Nat.{ℕ, ◌-◌}
+use Prim.Native.Nat.{ℕ}
 use native.Mathlib.Omega.{arith}
 use lib.ListN.{length, get_or, take, length-drop, length-take}
 use lib.Seq.{take_all}

@@ -1,7 +1,7 @@
 -- The cycle of calls {read_causes, read_chunk}: each goes on with fewer bytes, and leaves in the list what the definition reads there.
 use Prim.Native.Nat.{◌+◌}
 use native.Mathlib.Omega.{arith}
-use lib.ListN.{length, take, drop, length-drop}
+use lib.ListN.{take, drop, length-drop}
 use lib.Seq.{length-take-le}
 use Rattle.packet_parts.specs.Fronts.{rounded}
 use Rattle.cause_parts.specs.Causes.{chunk_held}

@@ -1,7 +1,7 @@
 -- `fields::put_words` meets its contract: after i turns the first i numbers stand at the front.
 use mathlib.Core.Path.{refl, ap, ◌∙◌}
 use mathlib.Core.List.{List}
-use Prim.Native.Nat.{ℕ, ◌-◌}
+use Prim.Native.Nat.{ℕ}
 use native.Mathlib.Omega.{arith}
 use lib.ListN.{length, get_or, take, length-drop, length-take}
 use lib.Seq.{take_all}

@@ -6,7 +6,7 @@ use native.Mathlib.Omega.{arith}
 use Rattle.crc32c.specs.Crc.{little_endian}
 use Rattle.wire_model.specs.BigEndian.{big_endian}
 use Rattle.wire.proofs.Reading.{field}
-use Rattle.packet.specs.Layout.{common, common_bytes}
+use Rattle.packet.specs.Layout.{common_bytes}
 use Rattle.packet.specs.Header.{common_read}
 use Rattle.packet.proofs.Sums.{common-whole, sum_wrong, sum_right}
 use Rattle.packet.proofs.unmarshal.Goals as goal

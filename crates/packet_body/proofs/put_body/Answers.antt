@@ -1,10 +1,9 @@
 -- `packet_body::put_body` meets its contract: each turn puts one chunk with its padding behind those that are done.
 use mathlib.Core.Path.{◌≡◌}
-use mathlib.Core.List.{◌++◌}
 use Prim.Native.Nat.{◌+◌, ◌-◌}
 use borrow.Author.Rules.{rules}
 use native.Mathlib.Omega.{arith}
-use lib.ListN.{length, take, drop, length-take, length-drop}
+use lib.ListN.{take, drop, length-take, length-drop}
 use Rattle.wire.proofs.Writing.{behind}
 use Rattle.packet_body.specs.Lent.{padded}
 use Rattle.packet_body.proofs.Passing.{size-read, all_done}
