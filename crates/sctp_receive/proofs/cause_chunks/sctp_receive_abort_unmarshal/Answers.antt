@@ -6,4 +6,4 @@ use Rattle.sctp_receive.proofs.cause_chunks.sctp_receive_abort_unmarshal.Goals a
 pub returns : goal.returns
 returns c =
     let call = c.abort_unmarshal in
-    rw (to_z-of_z {w = w32} {z = call.result} (record { sfits = call.type-inv })) call.ensures
+    rw (to_z-of_z {w = w32} {z = call.result} (record { sfits = call.type_inv })) call.ensures

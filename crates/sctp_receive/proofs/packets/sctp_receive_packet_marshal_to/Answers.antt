@@ -6,4 +6,4 @@ use Rattle.sctp_receive.proofs.packets.sctp_receive_packet_marshal_to.Goals as g
 pub returns : goal.returns
 returns c =
     let call = c.marshal_to in
-    rw (to_z-of_z {w = w32} {z = call.result} (record { sfits = call.type-inv })) call.ensures
+    rw (to_z-of_z {w = w32} {z = call.result} (record { sfits = call.type_inv })) call.ensures
