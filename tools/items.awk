@@ -2,8 +2,9 @@
 #
 #     kind TAB place TAB name TAB line TAB statement TAB body
 #
-# kind: call (a function marked `pub` in a file that is shown, of a crate of `public`), fn (any other), type (struct, enum, const, alias), def (abbrev,
-# unfoldable, record, data), pub-stated or stated (anything else that has a type), axiom. place: the file without crates/ and its ending.
+# kind: call (a function marked `pub` in a file that is shown, of a crate of `public`; and the `from` of an `impl From<AType> for B` there that has a
+# `ghost from_gives`, which is its contract: its name is B::from_a_type), fn (any other), type (struct, enum, const, alias), def (abbrev, unfoldable,
+# record, data), pub-stated or stated (anything else that has a type), axiom. place: the file without crates/ and its ending.
 # The statement of a function is its signature and its contract; that of what stands in a `module _ (..) where` begins with those parameters.
 #
 # The ghost fields of a struct, and the ghost members of its impls (`ghost view = { .. }`), stand behind its statement; those of a trait behind the trait's.
@@ -187,6 +188,7 @@ function rt(line,    s, indent) {
 }
 
 function ghost(type, s) {
+    if (impl != "") given = given " " s
     if (!((place, type) in Ghost)) Ghosts[++ghosts] = place SUBSEP type
     Ghost[place, type] = Ghost[place, type] " " s
 }
@@ -238,6 +240,9 @@ function impl_line(indent,    s) {
     if (s ~ / for [A-Za-z&\[(]/) { sub(/^.* for /, "", s) }
     gsub(/^[ &]+/, "", s); sub(/[^A-Za-z_0-9:].*/, "", s); sub(/:$/, "", s); sub(/^.*::/, "", s)
     impl = s == "" ? "_" : s
+    given = ""
+    source = ""
+    if (impl_head ~ / From<[A-Za-z_0-9]+> for /) { source = impl_head; sub(/^.* From</, "", source); sub(/> for .*$/, "", source) }
     if (impl_head ~ /^[^<]*trait /) { begin("type", impl, indent); s = impl_head; sub(/^pub(\([a-z_: ]*\))? /, "", s); sub(/ *\{( *\})?$/, "", s); add(s) }
     if (impl_head ~ /\{ *\}$/) impl = ""
 }
@@ -272,10 +277,19 @@ function fn(s, indent,    name, mark) {
     mark = s ~ /^pub (const |unsafe |final )*(extern "C" )?fn / ? "pub-fn" : "fn"
     sub(/^pub(\([a-z_: ]*\))? /, "", s)
     name = s; sub(/^(const |unsafe |final )*(extern "C" )?fn /, "", name); sub(/[^A-Za-z_0-9].*$/, "", name)
+    if (impl != "" && source != "" && name == "from" && given ~ /ghost from_gives /) { mark = "pub-fn"; name = "from" snake(source) }
     begin(mark, impl == "" ? name : impl "::" name, indent)
+    if (mark == "pub-fn" && name ~ /^from_/ && given != "") Contract[n] = given
     Impl[n] = impl
     gathering = "fn"
     header(s, indent)
+}
+
+# _a_type of AType
+function snake(s,    i, c, out) {
+    out = ""
+    for (i = 1; i <= length(s); i++) { c = substr(s, i, 1); out = out (i == 1 || c ~ /[A-Z]/ ? "_" : "") tolower(c) }
+    return out
 }
 
 # The signature, then the clauses, up to the `{` of the body, or the `;` of a method that a trait leaves open. What a clause goes by is no part of it.

@@ -2,24 +2,31 @@
 #![tactic(auto)]
 
 mod causes;
-mod forward;
 mod numbers;
-mod packets;
+mod parts;
 mod readers;
 mod walk;
 mod writers;
 
-use answer_text::out::SPACE;
-use answer_text::{answer, operands, out};
+use answer_text::fault::Fault;
+use answer_text::operands::Operands;
+use std::alloc::Global;
+use std::io::Write;
 
-pub fn call(call: &[u8], out: &mut [u8; SPACE], at: usize) -> usize {
-    match operands::u8_at(call, 0) {
-        3 => out::signed(out, at, numbers::tsn_distance(call)),
-        4 => out::signed(out, at, numbers::ssn_distance(call)),
-        7 | 10 | 11 | 54 | 62 => readers::part(call, out, at),
-        8 | 14 | 56 | 64 => writers::call(call, out, at),
-        63 => walk::walked(operands::raw(call), out, at),
-        65 | 66 => causes::call(call, out, at),
-        _ => answer::write(readers::call(call), out, at),
+// Does the call of this number, and writes what it answers.
+pub fn answer<W: Write>(
+    number: u8,
+    call: &mut Operands<'_>,
+    alloc: Global,
+    out: &mut W,
+) -> Result<(), Fault> {
+    match number {
+        1..=4 | 67 | 68 => write!(out, "{}", numbers::told(number, call)?)?,
+        7 | 10 | 11 | 54 | 62 => parts::answer(number, call, out)?,
+        8 | 14 | 56 | 64 => writers::answer(number, call, alloc, out)?,
+        63 => walk::walk(call.raw()?, out)?,
+        65 | 66 => causes::answer(number, call, alloc, out)?,
+        _ => write!(out, "{}", readers::told(number, call)?)?,
     }
+    Ok(())
 }

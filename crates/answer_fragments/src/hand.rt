@@ -1,118 +1,146 @@
-// The calls of the message in hand.
-use crate::kept;
-use crate::kept::{Kept, Told, Turn};
+// The message in hand, and its calls.
 use answer_text::answer::Answer;
-use answer_text::operands::BYTES;
-use answer_text::out::SPACE;
-use answer_text::{answer, operands, out};
-use chunks::{Chunks, Flag, Next, Number, Part, Piece};
+use answer_text::fault::{Fault, Malformed};
+use answer_text::operands::{BYTES, Operands};
+use answer_text::shown::Bytes;
+use chunks::Chunks;
+use std::alloc::Global;
+use std::io::Write;
 
-pub fn call(
-    kept: Kept,
-    call: &[u8],
-    buffer: &[u8; BYTES],
-    out: &mut [u8; SPACE],
-    at: usize,
-) -> Turn {
-    if !kept.held {
-        return Turn {
-            kept,
-            at: answer::word(answer::EMPTY_HANDED, out, at),
+// The message, if there is one, its buffer, and how many bytes of that are lent.
+#[derive(Clone, Copy)]
+pub struct Hand {
+    message: Option<Chunks>,
+    buffer: [u8; BYTES],
+    room: usize,
+}
+
+impl Hand {
+    pub fn new() -> Hand {
+        Hand {
+            message: None,
+            buffer: [0; BYTES],
+            room: 0,
+        }
+    }
+
+    // Does the call of this number, and writes what it answers.
+    pub fn answer<W: Write>(
+        &mut self,
+        number: u8,
+        call: &mut Operands<'_>,
+        alloc: Global,
+        out: &mut W,
+    ) -> Result<(), Fault> {
+        match number {
+            48 => write!(out, "{}", self.len())?,
+            49 => write!(out, "{}", self.is_empty())?,
+            50 => self.read(call, alloc, out)?,
+            51 => self.next(call, out)?,
+            52 => write!(out, "{}", self.forge(call)?)?,
+            _ => return Err(Fault::Malformed),
+        }
+        Ok(())
+    }
+
+    // A buffer of so many bytes, each of them this one, with no message in it; all behind it are 0.
+    pub fn empty(&mut self, room: usize, fill: u8) -> &mut [u8] {
+        self.message = None;
+        self.room = room;
+        self.buffer = [0; BYTES];
+        let lent = first_mut(&mut self.buffer, room);
+        lent.fill(fill);
+        lent
+    }
+
+    // A message that was taken into the buffer.
+    pub fn take(&mut self, message: Chunks) {
+        self.message = Some(message);
+    }
+
+    // The buffer, as much of it as is lent.
+    pub fn lent(&self) -> &[u8] {
+        first(&self.buffer, self.room)
+    }
+
+    fn len(&self) -> Answer {
+        match self.message {
+            Some(message) => message.len(self.lent()).into(),
+            None => Answer::NothingInHand,
+        }
+    }
+
+    fn is_empty(&self) -> Answer {
+        match self.message {
+            Some(message) => message.is_empty(self.lent()).into(),
+            None => Answer::NothingInHand,
+        }
+    }
+
+    // The whole read, into as much room as the call says, all of which stands behind the answer.
+    fn read<W: Write>(
+        &self,
+        call: &mut Operands<'_>,
+        alloc: Global,
+        out: &mut W,
+    ) -> Result<(), Fault> {
+        let mut room = call.room(alloc)?;
+        match self.message {
+            Some(message) => {
+                let answer = Answer::from(message.read(self.lent(), room.as_mut_slice()));
+                write!(out, "{answer} {}", Bytes(room.as_slice()))?;
+            }
+            None => write!(out, "{}", Answer::NothingInHand)?,
+        }
+        Ok(())
+    }
+
+    // The next piece; its bytes stand behind its place.
+    fn next<W: Write>(&mut self, call: &mut Operands<'_>, out: &mut W) -> Result<(), Fault> {
+        let most = call.index()?;
+        let held = first(&self.buffer, self.room);
+        let Some(message) = &mut self.message else {
+            write!(out, "{}", Answer::NothingInHand)?;
+            return Ok(());
         };
+        match message.next(held, most) {
+            Ok(Some(part)) => {
+                let to = part.start.saturating_add(part.size);
+                let bytes = held.get(part.start..to).unwrap_or(&[]);
+                write!(out, "piece {} {} {}", part.start, part.size, Bytes(bytes))?;
+            }
+            Ok(None) => write!(out, "{}", Answer::Nothing)?,
+            Err(refusal) => write!(out, "{refusal}")?,
+        }
+        Ok(())
     }
-    let held = operands::first(buffer, kept.room);
-    let message = kept.message;
-    match operands::u8_at(call, 0) {
-        50 => Turn {
-            kept,
-            at: read(message, call, held, out, at),
-        },
-        51 => moved(kept, call, held, out, at),
-        _ => kept::written(answered(kept, call, held), out, at),
+
+    // One field of the message, or how many bytes of its buffer are lent.
+    fn forge(&mut self, call: &mut Operands<'_>) -> Result<Answer, Malformed> {
+        let field = call.u8()?;
+        let value = call.index()?;
+        if 3 < field {
+            return Err(Malformed);
+        }
+        let Some(message) = &mut self.message else {
+            return Ok(Answer::NothingInHand);
+        };
+        match field {
+            0 => message.size = value,
+            1 => message.position = value,
+            2 => message.given = value != 0,
+            _ => self.room = value % (BYTES + 1),
+        }
+        Ok(Answer::Done)
     }
 }
 
-fn answered(kept: Kept, call: &[u8], held: &[u8]) -> Told {
-    let message = kept.message;
-    match operands::u8_at(call, 0) {
-        48 => Told {
-            kept,
-            told: number(message.len(held)),
-        },
-        49 => Told {
-            kept,
-            told: flag(message.is_empty(held)),
-        },
-        _ => forged(kept, call),
-    }
+// The first n; all where there are fewer.
+pub fn first(s: &[u8], n: usize) -> &[u8] {
+    &s[..n.min(s.len())]
 }
 
-// The next piece; its bytes stand behind its place.
-fn moved(kept: Kept, call: &[u8], held: &[u8], out: &mut [u8; SPACE], at: usize) -> Turn {
-    let mut kept = kept;
-    let message = kept.message;
-    let next: Next = message.next(held, operands::u64_at(call, 1) as usize);
-    let told = next.answer;
-    let message = next.message;
-    kept.message = message;
-    Turn {
-        kept,
-        at: piece(told, held, out, at),
-    }
-}
-
-fn piece(told: Piece, held: &[u8], out: &mut [u8; SPACE], at: usize) -> usize {
-    match told {
-        Piece::At(p) => part(p, held, out, at),
-        Piece::Nothing => answer::word(answer::NONE, out, at),
-        Piece::Refused(k) => answer::write(answer::refused(k), out, at),
-    }
-}
-
-fn part(p: Part, held: &[u8], out: &mut [u8; SPACE], at: usize) -> usize {
-    let told = answer::five(answer::PIECE, 2, p.start as u64, p.size as u64, 0, 0, 0);
-    let at = answer::write(told, out, at);
-    let to = std::num::wrapping_add_usize(p.start, p.size);
-    out::bytes(out, at, operands::part(held, p.start, to))
-}
-
-// One field of the message, or how many bytes of its buffer are lent.
-fn forged(kept: Kept, call: &[u8]) -> Told {
-    let mut kept = kept;
-    let mut message = kept.message;
-    let value = operands::u64_at(call, 2);
-    match operands::u8_at(call, 1) {
-        0 => message.size = value as usize,
-        1 => message.position = value as usize,
-        2 => message.given = value != 0,
-        _ => kept.room = (value % 65601) as usize,
-    }
-    kept.message = message;
-    Told {
-        kept,
-        told: answer::plain(answer::DONE),
-    }
-}
-
-// The whole read, into as much room as the call says, all of which stands behind the answer.
-fn read(message: Chunks, call: &[u8], held: &[u8], out: &mut [u8; SPACE], at: usize) -> usize {
-    let mut room = [operands::u8_at(call, 5); BYTES];
-    let n = operands::most(operands::size_at(call, 1), BYTES);
-    let told = message.read(held, &mut room[0..n]);
-    let at = answer::write(number(told), out, at);
-    out::room(out, at, &room, n)
-}
-
-pub fn flag(told: Flag) -> Answer {
-    match told {
-        Flag::Is(yes) => answer::is(yes),
-        Flag::Refused(k) => answer::refused(k),
-    }
-}
-
-pub fn number(told: Number) -> Answer {
-    match told {
-        Number::Is(n) => answer::one(answer::NUMBER, n as u64),
-        Number::Refused(k) => answer::refused(k),
-    }
+pub fn first_mut(s: &mut [u8], n: usize) -> &mut [u8] {
+    let n = n.min(s.len());
+    &mut s[..n]
 }

@@ -1,186 +1,129 @@
-// What a call answers, before it is written: a word, the flags of a chunk, and numbers.
-use crate::operands::NUMBERS;
-use crate::out::SPACE;
-use crate::{lists, out};
-use chunk::Marshalled;
+// What a call answers, in the words of docs/CALLS.md; lists and bytes are written behind it.
+use crate::shown::{Fields, Marks};
 use data_fields::ChunkPayloadData;
+use refusal::Refusal;
+use serial_model::Order;
+use std::fmt;
 
-// The flags are a word too.
 #[derive(Clone, Copy)]
-pub struct Answer {
-    pub word: u8,
-    pub flags: u8,
-    pub count: u8,
-    pub numbers: [u64; 5],
+pub enum Answer {
+    Is(bool),
+    Done,
+    Nothing,
+    NothingInHand,
+    Refused(Refusal),
+    Number(u64),
+    Distance(i64),
+    Order(Order),
+    // Whether the one number is lt, lte, gt, gte the other.
+    Ordered([bool; 4]),
+    Tsn(u32),
+    Wrote(usize),
+    Blocks(usize),
+    Causes(usize),
+    Header(u8, u8, u16),
+    Data(ChunkPayloadData),
+    // The cumulative TSN, the window, and how many blocks and duplicates.
+    Sack(u32, u32, u16, u16),
+    Block(u16, u16),
+    // The new cumulative TSN, and how many streams.
+    Forward(u32, u16),
+    // A stream and its SSN.
+    Stream(u16, u16),
+    // The ports and the verification tag.
+    Packet(u16, u16, u32),
+    // Where a chunk of a packet ends, and where the next one is.
+    Chunk(usize, usize),
+    // A chunk held, and the size of its data.
+    Held(ChunkPayloadData, u16),
+    // The same in flight, with its marks and the number of its message.
+    Sent(ChunkPayloadData, u16, Marks, u64),
+    // A message's SSN, payload identifier and size.
+    Message(u16, u32, usize),
 }
 
-// The words, each in its WIDTH bytes of WORDS. UNSHOWN is the one of no letters; those that follow stand behind others, a space or a bar in front.
-pub const YES: u8 = 0;
-
-pub const NO: u8 = 1;
-
-pub const DONE: u8 = 2;
-
-pub const NONE: u8 = 3;
-
-pub const REFUSED: u8 = 4;
-
-pub const NUMBER: u8 = 5;
-
-pub const TSN: u8 = 6;
-
-pub const HEADER: u8 = 7;
-
-pub const DATA: u8 = 8;
-
-pub const PART: u8 = 9;
-
-pub const WROTE: u8 = 10;
-
-pub const SACK: u8 = 11;
-
-pub const BLOCK: u8 = 12;
-
-pub const CHUNK: u8 = 13;
-
-pub const LOG: u8 = 14;
-
-pub const BLOCKS: u8 = 15;
-
-pub const HELD: u8 = 16;
-
-pub const WHOLE: u8 = 17;
-
-pub const MESSAGE: u8 = 18;
-
-pub const PIECE: u8 = 19;
-
-pub const QUEUE: u8 = 20;
-
-pub const FORWARD: u8 = 21;
-
-pub const STREAM: u8 = 22;
-
-pub const EMPTY_HANDED: u8 = 23;
-
-pub const PACKET: u8 = 24;
-
-pub const WALK: u8 = 25;
-
-pub const CAUSES: u8 = 26;
-
-pub const SENT: u8 = 27;
-
-pub const EARLIER: u8 = 28;
-
-pub const SAME: u8 = 29;
-
-pub const LATER: u8 = 30;
-
-pub const OPPOSITE: u8 = 31;
-
-pub const MALFORMED: u8 = 32;
-
-pub const UNSHOWN: u8 = 33;
-
-pub const RECORD: u8 = 34;
-
-pub const FINISHED: u8 = 35;
-
-pub const LOOSE: u8 = 36;
-
-pub const ORDERED: u8 = 37;
-
-pub const STARTS: u8 = 38;
-
-pub const ENDS: u8 = 39;
-
-pub const CODES: u8 = 40;
-
-pub const DEPTHS: u8 = 41;
-
-pub const SIZES: u8 = 42;
-
-// The first of the sets of flags, of marks, and of four times yes or no, each set in the order of its number.
-pub const FLAGS: u8 = 43;
-
-pub const MARKS: u8 = 59;
-
-pub const ORDERS: u8 = 67;
-
-const ALL: u8 = 83;
-
-// So many bytes, of which those from a low line on are none of the word.
-const WIDTH: usize = 15;
-
-const WORDS: [u8; 1245] =
-    *b"yes____________no_____________done___________none___________refused________number_________tsn____________header_________data___________part___________wrote__________sack___________block__________chunk__________log____________blocks_________held___________whole__________message________piece__________queue__________forward________stream_________nothing in handpacket_________walk___________causes_________sent___________earlier________same___________later__________opposite_______malformed call________________ |_____________ | f___________ | u___________ | o___________ starts________ ends__________ codes_________ depths________ sizes_________ -_____________ E_____________ B_____________ BE____________ U_____________ UE____________ UB____________ UBE___________ I_____________ EI____________ BI____________ BEI___________ UI____________ UEI___________ UBI___________ UBEI__________ -_____________ A_____________ X_____________ AX____________ R_____________ AR____________ XR____________ AXR___________no no no no____no no no yes___no no yes no___no no yes yes__no yes no no___no yes no yes__no yes yes no__no yes yes yes_yes no no no___yes no no yes__yes no yes no__yes no yes yes_yes yes no no__yes yes no yes_yes yes yes no_yes yes yes yes";
-
-pub fn five(word: u8, count: u8, a: u64, b: u64, c: u64, d: u64, e: u64) -> Answer {
-    Answer {
-        word,
-        flags: UNSHOWN,
-        count,
-        numbers: [a, b, c, d, e],
+impl fmt::Display for Answer {
+    fn fmt<W: fmt::Write>(&self, f: &mut fmt::Formatter<W>) -> fmt::Result {
+        match *self {
+            Answer::Is(yes) => f.write_str(yes_or_no(yes)),
+            Answer::Done => f.write_str("done"),
+            Answer::Nothing => f.write_str("none"),
+            Answer::NothingInHand => f.write_str("nothing in hand"),
+            Answer::Refused(refusal) => write!(f, "{refusal}"),
+            Answer::Number(n) => write!(f, "number {n}"),
+            Answer::Distance(n) => write!(f, "{n}"),
+            Answer::Order(order) => f.write_str(word(order)),
+            Answer::Ordered(each) => ordered(f, each),
+            Answer::Tsn(tsn) => write!(f, "tsn {tsn}"),
+            Answer::Wrote(n) => write!(f, "wrote {n}"),
+            Answer::Blocks(n) => write!(f, "blocks {n}"),
+            Answer::Causes(n) => write!(f, "causes {n}"),
+            Answer::Header(typ, flags, length) => write!(f, "header {typ} {flags} {length}"),
+            Answer::Data(chunk) => write!(f, "data {}", Fields(chunk)),
+            Answer::Sack(tsn, window, n, x) => write!(f, "sack {tsn} {window} {n} {x}"),
+            Answer::Block(start, end) => write!(f, "block {start} {end}"),
+            Answer::Forward(point, n) => write!(f, "forward {point} {n}"),
+            Answer::Stream(stream, ssn) => write!(f, "stream {stream} {ssn}"),
+            Answer::Packet(from, to, tag) => write!(f, "packet {from} {to} {tag}"),
+            Answer::Chunk(end, next) => write!(f, "chunk {end} {next}"),
+            Answer::Held(chunk, size) => write!(f, "chunk {} {size}", Fields(chunk)),
+            Answer::Sent(chunk, size, marks, message) => {
+                write!(f, "sent {} {size} {marks} {message}", Fields(chunk))
+            }
+            Answer::Message(ssn, ppi, size) => write!(f, "message {ssn} {ppi} {size}"),
+        }
     }
 }
 
-pub fn plain(word: u8) -> Answer {
-    five(word, 0, 0, 0, 0, 0, 0)
+fn yes_or_no(yes: bool) -> &'static str {
+    if yes { "yes" } else { "no" }
 }
 
-pub fn one(word: u8, a: u64) -> Answer {
-    five(word, 1, a, 0, 0, 0, 0)
-}
-
-pub fn refused(k: u8) -> Answer {
-    one(REFUSED, k as u64)
-}
-
-pub fn is(yes: bool) -> Answer {
-    if yes { plain(YES) } else { plain(NO) }
-}
-
-// The value of what is in a set.
-pub fn bit(is: bool, value: u8) -> u8 {
-    if is { value } else { 0 }
-}
-
-// How many bytes were written.
-pub fn wrote(written: Marshalled) -> Answer {
-    match written {
-        Marshalled::Bytes(n) => one(WROTE, n as u64),
-        Marshalled::Refused(k) => refused(k),
+fn word(order: Order) -> &'static str {
+    match order {
+        Order::Earlier => "earlier",
+        Order::Same => "same",
+        Order::Later => "later",
+        Order::Opposite => "opposite",
     }
 }
 
-// Flags, TSN, stream, SSN, identifier, and a size, where it is one of the numbers that are shown.
-pub fn fields(word: u8, count: u8, f: ChunkPayloadData, size: u64) -> Answer {
-    let identifier = f.payload_type as u64;
-    let stream = f.stream_identifier as u64;
-    let ssn = f.stream_sequence_number as u64;
-    let mut told = five(word, count, f.tsn as u64, stream, ssn, identifier, size);
-    told.flags = std::num::wrapping_add_u8(FLAGS, data_fields::flags_of(f));
-    told
+fn ordered<W: fmt::Write>(f: &mut fmt::Formatter<W>, each: [bool; 4]) -> fmt::Result {
+    let [lt, lte, gt, gte] = each.map(yes_or_no);
+    write!(f, "{lt} {lte} {gt} {gte}")
 }
 
-// Onto the line.
-pub fn write(told: Answer, out: &mut [u8; SPACE], at: usize) -> usize {
-    let numbers = told.numbers;
-    let at = word(told.word, out, at);
-    let at = word(told.flags, out, at);
-    out::longs(out, at, &numbers, told.count)
+impl From<Result<bool, Refusal>> for Answer {
+    fn from(told: Result<bool, Refusal>) -> Answer {
+        told.map_or_else(Answer::Refused, Answer::Is)
+    }
 }
 
-// A word alone.
-pub fn word(w: u8, out: &mut [u8; SPACE], at: usize) -> usize {
-    let words = WORDS;
-    let from = WIDTH * (w % ALL) as usize;
-    out::text(out, at, out::trimmed(&words, from, from + WIDTH))
+impl From<Result<(), Refusal>> for Answer {
+    fn from(told: Result<(), Refusal>) -> Answer {
+        told.map_or_else(Answer::Refused, |()| Answer::Done)
+    }
 }
 
-// The first n numbers of a list, behind its name.
-pub fn list(name: u8, list: &[u16; NUMBERS], n: usize, out: &mut [u8; SPACE], at: usize) -> usize {
-    let at = word(name, out, at);
-    out::shorts(out, at, lists::first_shorts(list, n))
+impl From<Result<usize, Refusal>> for Answer {
+    fn from(told: Result<usize, Refusal>) -> Answer {
+        told.map_or_else(Answer::Refused, |n| Answer::Number(n as u64))
+    }
+}
+
+impl From<Result<Option<u32>, Refusal>> for Answer {
+    fn from(told: Result<Option<u32>, Refusal>) -> Answer {
+        match told {
+            Ok(Some(tsn)) => Answer::Tsn(tsn),
+            Ok(None) => Answer::Nothing,
+            Err(refusal) => Answer::Refused(refusal),
+        }
+    }
+}
+
+// What a call answers whose words are its own.
+impl From<Result<Answer, Refusal>> for Answer {
+    fn from(told: Result<Answer, Refusal>) -> Answer {
+        told.unwrap_or_else(Answer::Refused)
+    }
 }

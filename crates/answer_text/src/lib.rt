@@ -1,9 +1,8 @@
-// What every call of docs/CALLS.md shares: its form, its operands, the lists that it is lent, and its answer, put into a lent buffer as a line.
+// What every call of docs/CALLS.md shares: its operands, its answer, and how both stand in the streams.
 #![tactic(auto)]
 
 pub mod answer;
 pub mod digest;
-pub mod form;
-pub mod lists;
+pub mod fault;
 pub mod operands;
-pub mod out;
+pub mod shown;

@@ -1,7 +1,9 @@
-// The operands of a call: numbers, big-endian, at a place of it; 0 where they are not all there; and the chunks that stand in them or in a table's words.
-ghost use Rattle.std.specs.Prelude.{◌≤◌};
+// The operands of a call, in their order; what docs/CALLS.md says of one is tested as it is read.
+ghost use Rattle.std.specs.Prelude.{◌≤◌, IfOk};
 
+use crate::fault::{Fault, Malformed};
 use data_fields::ChunkPayloadData;
+use std::alloc::Global;
 
 // The most bytes of a raw, of patterned data, or of a lent buffer.
 pub const BYTES: usize = 65600;
@@ -12,103 +14,137 @@ pub const NUMBERS: usize = 16400;
 // The most places of a lent list of causes, of which a line has four.
 pub const CAUSES: usize = 10000;
 
-pub fn u8_at(s: &[u8], at: usize) -> u8 {
-    if at < s.len() { s[at] } else { 0 }
+// What is left of the stream; a number is big-endian.
+#[derive(Clone, Copy)]
+pub struct Operands<'a> {
+    rest: &'a [u8],
 }
 
-pub fn u16_at(s: &[u8], at: usize) -> u16 {
-    if s.len() < 2 {
-        return 0;
+impl<'a> Operands<'a> {
+    pub fn of(stream: &'a [u8]) -> Operands<'a> {
+        Operands { rest: stream }
     }
-    if s.len() - 2 < at {
-        return 0;
+
+    // How many bytes are not read yet.
+    pub fn left(self) -> usize {
+        self.rest.len()
     }
-    wire::get_u16(s, at)
-}
 
-pub fn u32_at(s: &[u8], at: usize) -> u32 {
-    if s.len() < 4 {
-        return 0;
+    pub fn u8(&mut self) -> Result<u8, Malformed> {
+        Ok(u8::from_be_bytes(self.array()?))
     }
-    if s.len() - 4 < at {
-        return 0;
+
+    pub fn u16(&mut self) -> Result<u16, Malformed> {
+        Ok(u16::from_be_bytes(self.array()?))
     }
-    wire::get_u32(s, at)
-}
 
-pub fn u64_at(s: &[u8], at: usize) -> u64 {
-    let high = u32_at(s, at);
-    let low = u32_at(s, std::num::wrapping_add_usize(at, 4));
-    (high as u64) * 4294967296 + low as u64
-}
-
-// How many bytes: a number of 32 bits.
-pub fn size_at(s: &[u8], at: usize) -> usize {
-    u32_at(s, at) as usize
-}
-
-// How many numbers: one of 16 bits.
-pub fn count_at(s: &[u8], at: usize) -> usize {
-    u16_at(s, at) as usize
-}
-
-// From one place up to another; nothing where that is no part.
-pub fn part(s: &[u8], from: usize, to: usize) -> &[u8] {
-    if to <= s.len() {
-        if from <= to {
-            return &s[from..to];
-        }
+    pub fn u32(&mut self) -> Result<u32, Malformed> {
+        Ok(u32::from_be_bytes(self.array()?))
     }
-    &s[0..0]
+
+    pub fn u64(&mut self) -> Result<u64, Malformed> {
+        Ok(u64::from_be_bytes(self.array()?))
+    }
+
+    // An index or a place, whatever it is.
+    pub fn index(&mut self) -> Result<usize, Malformed> {
+        Ok(self.u64()? as usize)
+    }
+
+    pub fn raw(&mut self) -> Result<&'a [u8], Malformed> {
+        let n = self.size()?;
+        self.bytes(n)
+    }
+
+    pub fn fields(&mut self) -> Result<ChunkPayloadData, Malformed> {
+        let flags = self.u8()?;
+        let tsn = self.u32()?;
+        let stream = self.u16()?;
+        let ssn = self.u16()?;
+        Ok(chunk(flags, tsn, stream, ssn, self.u32()?))
+    }
+
+    // Patterned data.
+    pub fn user_data(&mut self, alloc: Global) -> Result<Vec<u8>, Fault> {
+        let n = self.size()?;
+        let seed = self.u8()?;
+        Ok((0..n).map(|i| patterned(seed, i)).collect(alloc)?)
+    }
+
+    pub fn shorts(&mut self, alloc: Global) -> Result<Vec<u16>, Fault> {
+        let n = self.places(NUMBERS)?;
+        let (numbers, _) = self.bytes(2 * n)?.as_chunks::<2>();
+        Ok(
+            numbers
+                .iter()
+                .map(|b| u16::from_be_bytes(*b))
+                .collect(alloc)?,
+        )
+    }
+
+    pub fn words(&mut self, alloc: Global) -> Result<Vec<u32>, Fault> {
+        let n = self.places(NUMBERS)?;
+        let (numbers, _) = self.bytes(4 * n)?.as_chunks::<4>();
+        Ok(
+            numbers
+                .iter()
+                .map(|b| u32::from_be_bytes(*b))
+                .collect(alloc)?,
+        )
+    }
+
+    // A lent buffer: so many bytes, each of which is what follows.
+    pub fn room(&mut self, alloc: Global) -> Result<Vec<u8>, Fault> {
+        let n = self.size()?;
+        let fill = self.u8()?;
+        Ok(vec![in alloc; fill; n]?)
+    }
+
+    // How many places a lent or given list has.
+    pub fn places(&mut self, most: usize) -> Result<usize, Malformed>
+        ensures { IfOk result (λ n. n ≤ most) }
+    {
+        at_most(usize::from(self.u16()?), most)
+    }
+
+    // How many bytes.
+    pub fn size(&mut self) -> Result<usize, Malformed> {
+        at_most(self.u32()? as usize, BYTES)
+    }
+
+    fn bytes(&mut self, n: usize) -> Result<&'a [u8], Malformed> {
+        let (first, rest) = self.rest.split_at_checked(n).ok_or(Malformed)?;
+        self.rest = rest;
+        Ok(first)
+    }
+
+    fn array<const N: usize>(&mut self) -> Result<[u8; N], Malformed> {
+        let (first, rest) = self.rest.split_first_chunk::<N>().ok_or(Malformed)?;
+        self.rest = rest;
+        Ok(*first)
+    }
 }
 
-// The first n; all where there are fewer.
-pub fn first(s: &[u8], n: usize) -> &[u8] {
-    if n <= s.len() { &s[0..n] } else { s }
-}
-
-// The smaller of a number and a limit.
-pub fn most(n: usize, limit: usize) -> usize
-    ensures { result ≤ limit }
+fn at_most(n: usize, most: usize) -> Result<usize, Malformed>
+    ensures { IfOk result (λ k. k ≤ most) }
 {
-    if n < limit { n } else { limit }
+    if n <= most { Ok(n) } else { Err(Malformed) }
 }
 
-// The bytes of a raw that is the call's first operand.
-pub fn raw(call: &[u8]) -> &[u8] {
-    part(call, 5, std::num::wrapping_add_usize(5, size_at(call, 1)))
-}
-
-// What stands behind that raw.
-pub fn behind_raw(call: &[u8]) -> &[u8] {
-    part(
-        call,
-        std::num::wrapping_add_usize(5, size_at(call, 1)),
-        call.len(),
-    )
-}
-
-// The number there.
-pub fn index(call: &[u8]) -> usize {
-    u64_at(behind_raw(call), 0) as usize
-}
-
-// The fields of a chunk that stand in front.
-pub fn fields(s: &[u8]) -> ChunkPayloadData {
-    let tsn = u32_at(s, 1);
-    let stream = u16_at(s, 5);
-    let ssn = u16_at(s, 7);
-    let identifier = u32_at(s, 9);
-    chunk(u8_at(s, 0), tsn, stream, ssn, identifier)
+// Byte i of patterned data: seed + i + i / 256, modulo 256.
+fn patterned(seed: u8, i: usize) -> u8 {
+    let low = (i % 256) as u8;
+    let high = (i / 256 % 256) as u8;
+    seed.wrapping_add(low).wrapping_add(high)
 }
 
 // The chunk of these numbers; the upper four bits of the flags are ignored.
-pub fn chunk(flags: u8, tsn: u32, stream: u16, ssn: u16, identifier: u32) -> ChunkPayloadData {
+fn chunk(flags: u8, tsn: u32, stream: u16, ssn: u16, identifier: u32) -> ChunkPayloadData {
     ChunkPayloadData {
-        unordered: flags / 4 % 2 == 1,
-        beginning_fragment: flags / 2 % 2 == 1,
-        ending_fragment: flags % 2 == 1,
-        immediate_sack: flags / 8 % 2 == 1,
+        unordered: flags & 4 != 0,
+        beginning_fragment: flags & 2 != 0,
+        ending_fragment: flags & 1 != 0,
+        immediate_sack: flags & 8 != 0,
         tsn,
         stream_identifier: stream,
         stream_sequence_number: ssn,
@@ -116,10 +152,14 @@ pub fn chunk(flags: u8, tsn: u32, stream: u16, ssn: u16, identifier: u32) -> Chu
     }
 }
 
-// The chunk of these words of a table: flags, beside a length, in the first, the TSN, stream and SSN, and the identifier.
-pub fn record(head: u32, tsn: u32, id: u32, ppi: u32) -> ChunkPayloadData {
-    let flags = (head / 16777216) as u8;
-    let stream = (id / 65536) as u16;
-    let ssn = (id % 65536) as u16;
-    chunk(flags, tsn, stream, ssn, ppi)
+// The chunk of a table's four words: flags, beside a length, in the first, the TSN, stream and SSN, and the identifier.
+pub fn record(head: u32, tsn: u32, id: u32, identifier: u32) -> ChunkPayloadData {
+    let [flags, _, _, _] = head.to_be_bytes();
+    chunk(
+        flags,
+        tsn,
+        (id >> 16) as u16,
+        (id & 0xFFFF) as u16,
+        identifier,
+    )
 }

@@ -1,196 +1,138 @@
-// The calls of the sender's in-flight queue.
-use crate::records;
-use crate::told::{done, flag, number};
+// The sender's in-flight queue, and its calls.
+use crate::rows::Row;
 use answer_text::answer::Answer;
-use answer_text::out::SPACE;
-use answer_text::{answer, digest, operands};
-use inflight_queue::{Changed, InFlightQueue, Popped, Released, Sent, TSNS, TakenSent, WORDS};
+use answer_text::digest;
+use answer_text::fault::{Fault, Malformed};
+use answer_text::operands::Operands;
+use answer_text::shown::Marks;
+use inflight_queue::{InFlightQueue, Sent, TSNS, WORDS};
+use refusal::Refusal;
+use std::io;
+use std::io::Write;
 
-// The queue after a call, and the place behind its line ..
+// The numbers of the messages stand beside the table.
 #[derive(Clone, Copy)]
-pub struct Turn {
-    pub queue: InFlightQueue,
-    pub at: usize,
-}
-
-// .. or what is to be written.
-#[derive(Clone, Copy)]
-struct Told {
+pub struct Flight {
     queue: InFlightQueue,
-    told: Answer,
+    table: [u32; WORDS],
+    messages: [u64; TSNS],
 }
 
-pub fn call(
-    queue: InFlightQueue,
-    call: &[u8],
-    table: &mut [u32; WORDS],
-    messages: &mut [u64; TSNS],
-    out: &mut [u8; SPACE],
-    at: usize,
-) -> Turn {
-    let tsn = operands::u32_at(call, 1);
-    match operands::u8_at(call, 0) {
-        74 => popped(queue.pop(table, messages, tsn), out, at),
-        76 => Turn {
-            queue,
-            at: taken(queue.get(table, messages, tsn), out, at),
-        },
-        80 => Turn {
-            queue,
-            at: records::flight(queue.count, queue.n_bytes, table, messages, out, at),
-        },
-        _ => written(plain(queue, call, table, messages), out, at),
+impl Flight {
+    pub fn new() -> Flight {
+        Flight {
+            queue: InFlightQueue::new(),
+            table: [0; WORDS],
+            messages: [0; TSNS],
+        }
+    }
+
+    // Does the call of this number, and writes what it answers.
+    pub fn answer<W: Write>(
+        &mut self,
+        number: u8,
+        call: &mut Operands<'_>,
+        out: &mut W,
+    ) -> Result<(), Fault> {
+        match number {
+            80 => self.state(out)?,
+            82 => self.whole(out)?,
+            _ => {
+                let answer = self.told(number, call)?;
+                write!(out, "{answer}")?;
+            }
+        }
+        Ok(())
+    }
+
+    fn told(&mut self, number: u8, call: &mut Operands<'_>) -> Result<Answer, Malformed> {
+        let queue = &mut self.queue;
+        let table = &mut self.table;
+        let messages = &mut self.messages;
+        match number {
+            69 => *queue = InFlightQueue::new(),
+            70 => return self.push(call),
+            71 => return Ok(queue.mark_as_acked(table, call.u32()?).into()),
+            72 => return Ok(queue.mark_all_to_retransmit(table).into()),
+            73 => return Ok(queue.abandon_message(table, messages, call.u64()?).into()),
+            74 => return Ok(sent(queue.pop(table, messages, call.u32()?))),
+            75 => return Ok(queue.pop_up_to(table, messages, call.u32()?).into()),
+            81 => self.forge(call)?,
+            _ => return self.asked(number, call),
+        }
+        Ok(Answer::Done)
+    }
+
+    fn push(&mut self, call: &mut Operands<'_>) -> Result<Answer, Malformed> {
+        let chunk = call.fields()?;
+        let size = call.u16()?;
+        let message = call.u64()?;
+        let queue = &mut self.queue;
+        let pushed = queue.push_no_check(&mut self.table, &mut self.messages, chunk, size, message);
+        Ok(pushed.into())
+    }
+
+    // The calls that change nothing.
+    fn asked(&self, number: u8, call: &mut Operands<'_>) -> Result<Answer, Malformed> {
+        Ok(match number {
+            76 => sent(self.queue.get(&self.table, &self.messages, call.u32()?)),
+            77 => self.queue.get_num_bytes(&self.table).into(),
+            78 => self.queue.len(&self.table).into(),
+            79 => self.queue.is_empty(&self.table).into(),
+            _ => return Err(Malformed),
+        })
+    }
+
+    // The counts, and the rows that they speak of, each with its marks and the number of its message.
+    fn state<W: Write>(&self, out: &mut W) -> io::Result<()> {
+        let count = self.queue.counts.count;
+        let bytes = self.queue.counts.n_bytes;
+        write!(out, "held {count} {bytes}")?;
+        for i in 0..count.min(TSNS) {
+            let row = Row::of(&self.table, i);
+            write!(out, " | {row} {} {}", row.marks, self.messages[i])?;
+        }
+        Ok(())
+    }
+
+    fn whole<W: Write>(&self, out: &mut W) -> io::Result<()> {
+        let counts = self.queue.counts;
+        let words = digest::words(&self.table);
+        let numbers = digest::longs(&self.messages);
+        write!(
+            out,
+            "whole {} {} {words} {numbers}",
+            counts.count, counts.n_bytes
+        )
+    }
+
+    // A count of the queue, one word of its table, or the number of one message.
+    fn forge(&mut self, call: &mut Operands<'_>) -> Result<(), Malformed> {
+        let field = call.u8()?;
+        let index = usize::from(call.u16()?);
+        let value = call.u64()?;
+        match field {
+            0 => self.queue.counts.count = value as usize,
+            1 => self.queue.counts.n_bytes = value as usize,
+            2 => self.table[index % WORDS] = (value & 0xFFFF_FFFF) as u32,
+            3 => self.messages[index % TSNS] = value,
+            _ => return Err(Malformed),
+        }
+        Ok(())
     }
 }
 
-fn written(told: Told, out: &mut [u8; SPACE], at: usize) -> Turn {
-    let queue = told.queue;
-    let told = told.told;
-    Turn {
-        queue,
-        at: answer::write(told, out, at),
-    }
-}
-
-fn popped(popped: Popped, out: &mut [u8; SPACE], at: usize) -> Turn {
-    let told = popped.answer;
-    let queue = popped.queue;
-    Turn {
-        queue,
-        at: taken(told, out, at),
-    }
-}
-
-fn taken(told: TakenSent, out: &mut [u8; SPACE], at: usize) -> usize {
+fn sent(told: Result<Option<Sent>, Refusal>) -> Answer {
     match told {
-        TakenSent::Chunk(s) => sent(s, out, at),
-        TakenSent::Nothing => answer::word(answer::NONE, out, at),
-        TakenSent::Refused(k) => answer::write(answer::refused(k), out, at),
+        Ok(Some(sent)) => {
+            let marks = Marks {
+                acked: sent.acked,
+                abandoned: sent.abandoned,
+                retransmit: sent.retransmit,
+            };
+            Answer::Sent(sent.queued.chunk, sent.queued.size, marks, sent.message_id)
+        }
+        Ok(None) => Answer::Nothing,
+        Err(refusal) => Answer::Refused(refusal),
     }
-}
-
-fn sent(s: Sent, out: &mut [u8; SPACE], at: usize) -> usize {
-    let queued = s.queued;
-    let chunk = queued.chunk;
-    let told = answer::fields(answer::SENT, 5, chunk, queued.size as u64);
-    let at = answer::write(told, out, at);
-    answer::write(records::marked(marks(s), s.message_id), out, at)
-}
-
-// The marks as a number: acknowledged 1, abandoned 2, to be sent again 4.
-fn marks(s: Sent) -> u8 {
-    answer::bit(s.acked, 1) | answer::bit(s.abandoned, 2) | answer::bit(s.retransmit, 4)
-}
-
-// The calls that answer with no chunk.
-fn plain(
-    queue: InFlightQueue,
-    call: &[u8],
-    table: &mut [u32; WORDS],
-    messages: &mut [u64; TSNS],
-) -> Told {
-    let tsn = operands::u32_at(call, 1);
-    match operands::u8_at(call, 0) {
-        69 => new(),
-        70 => push(queue, call, table, messages),
-        71 => released(queue.mark_as_acked(table, tsn)),
-        72 => changed(queue.mark_all_to_retransmit(table)),
-        73 => released(queue.abandon_message(table, messages, operands::u64_at(call, 1))),
-        75 => changed(queue.pop_up_to(table, messages, tsn)),
-        81 => forged(queue, call, table, messages),
-        _ => Told {
-            queue,
-            told: asked(queue, call, table, messages),
-        },
-    }
-}
-
-fn new() -> Told {
-    let queue = InFlightQueue::new();
-    Told {
-        queue,
-        told: answer::plain(answer::DONE),
-    }
-}
-
-fn push(
-    queue: InFlightQueue,
-    call: &[u8],
-    table: &mut [u32; WORDS],
-    messages: &mut [u64; TSNS],
-) -> Told {
-    let chunk = operands::fields(operands::part(call, 1, 14));
-    let size = operands::u16_at(call, 14);
-    let message = operands::u64_at(call, 16);
-    changed(queue.push_no_check(table, messages, chunk, size, message))
-}
-
-fn changed(changed: Changed) -> Told {
-    let told = changed.answer;
-    let queue = changed.queue;
-    Told {
-        queue,
-        told: done(told),
-    }
-}
-
-fn released(released: Released) -> Told {
-    let told = released.answer;
-    let queue = released.queue;
-    Told {
-        queue,
-        told: number(answer::NUMBER, told),
-    }
-}
-
-// A count of the queue, one word of its table, or one number of a message.
-fn forged(
-    queue: InFlightQueue,
-    call: &[u8],
-    table: &mut [u32; WORDS],
-    messages: &mut [u64; TSNS],
-) -> Told {
-    let mut queue = queue;
-    let index = operands::count_at(call, 2);
-    let value = operands::u64_at(call, 4);
-    match operands::u8_at(call, 1) {
-        0 => queue.count = value as usize,
-        1 => queue.n_bytes = value as usize,
-        2 => table[index % WORDS] = (value % 4294967296) as u32,
-        _ => messages[index % TSNS] = value,
-    }
-    Told {
-        queue,
-        told: answer::plain(answer::DONE),
-    }
-}
-
-// The calls that change nothing.
-fn asked(
-    queue: InFlightQueue,
-    call: &[u8],
-    table: &[u32; WORDS],
-    messages: &[u64; TSNS],
-) -> Answer {
-    match operands::u8_at(call, 0) {
-        77 => number(answer::NUMBER, queue.get_num_bytes(table)),
-        78 => number(answer::NUMBER, queue.len(table)),
-        79 => flag(queue.is_empty(table)),
-        _ => whole(queue, table, messages),
-    }
-}
-
-fn whole(queue: InFlightQueue, table: &[u32; WORDS], messages: &[u64; TSNS]) -> Answer {
-    let bytes = queue.n_bytes as u64;
-    let words = digest::words(table);
-    let numbers = digest::longs(messages);
-    answer::five(
-        answer::WHOLE,
-        4,
-        queue.count as u64,
-        bytes,
-        words,
-        numbers,
-        0,
-    )
 }

@@ -1,8 +1,6 @@
-// The calls of the TSN queue and of the sender's in-flight queue.
+// The TSN queue and the sender's in-flight queue with the tables that are lent to them, and their calls.
 #![tactic(auto)]
 
 pub mod flight;
-mod lists;
-mod records;
-pub mod told;
+mod rows;
 pub mod tsns;

@@ -1,188 +1,180 @@
-// The calls of the TSN queue.
-use crate::told::{done, flag, number};
-use crate::{lists, records};
+// The TSN queue, and its calls.
+use crate::rows::Row;
 use answer_text::answer::Answer;
-use answer_text::out::SPACE;
-use answer_text::{answer, digest, operands, out};
-use payload_queue::{Dropped, LOG, LastTsn, PayloadQueue, Popped, Queued, Taken, WORDS};
+use answer_text::digest;
+use answer_text::fault::{Fault, Malformed};
+use answer_text::operands::{NUMBERS, Operands};
+use answer_text::shown::Numbers;
+use payload_queue::{LOG, PayloadQueue, Queued, TSNS, WORDS};
+use refusal::Refusal;
+use std::alloc::Global;
+use std::io;
+use std::io::Write;
 
-// The queue after a call, and the place behind its line ..
 #[derive(Clone, Copy)]
-pub struct Turn {
+pub struct Tsns {
     pub queue: PayloadQueue,
-    pub at: usize,
+    pub table: [u32; WORDS],
 }
 
-// .. or what is to be written.
-#[derive(Clone, Copy)]
-pub struct Told {
-    pub queue: PayloadQueue,
-    pub told: Answer,
-}
+impl Tsns {
+    pub fn new() -> Tsns {
+        Tsns {
+            queue: PayloadQueue::new(),
+            table: [0; WORDS],
+        }
+    }
 
-pub fn call(
-    queue: PayloadQueue,
-    call: &[u8],
-    table: &mut [u32; WORDS],
-    out: &mut [u8; SPACE],
-    at: usize,
-) -> Turn {
-    match operands::u8_at(call, 0) {
-        22 => log(queue, table, out, at),
-        23 => Turn {
-            queue,
-            at: lists::gaps(queue, call, table, out, at),
-        },
-        29 => Turn {
-            queue,
-            at: records::tsns(queue.count, queue.n_bytes, table, out, at),
-        },
-        _ => written(plain(queue, call, table), out, at),
+    // Does the call of this number, and writes what it answers.
+    pub fn answer<W: Write>(
+        &mut self,
+        number: u8,
+        call: &mut Operands<'_>,
+        alloc: Global,
+        out: &mut W,
+    ) -> Result<(), Fault> {
+        match number {
+            22 => self.log(out)?,
+            23 => self.gaps(call, alloc, out)?,
+            29 => self.state(out)?,
+            31 => self.whole(out)?,
+            _ => {
+                let answer = self.told(number, call)?;
+                write!(out, "{answer}")?;
+            }
+        }
+        Ok(())
+    }
+
+    // The calls that answer with no list.
+    fn told(&mut self, number: u8, call: &mut Operands<'_>) -> Result<Answer, Malformed> {
+        match number {
+            16 => self.queue = PayloadQueue::new(),
+            18 => return self.push(call),
+            19 => return Ok(queued(self.queue.pop(&mut self.table, call.u32()?))),
+            20 => return Ok(self.queue.pop_up_to(&mut self.table, call.u32()?).into()),
+            30 => self.forge(call)?,
+            57 => return self.forward(call),
+            _ => return self.asked(number, call),
+        }
+        Ok(Answer::Done)
+    }
+
+    fn push(&mut self, call: &mut Operands<'_>) -> Result<Answer, Malformed> {
+        let chunk = call.fields()?;
+        let size = call.u16()?;
+        let cumulative = call.u32()?;
+        Ok(
+            self.queue
+                .push(&mut self.table, chunk, size, cumulative)
+                .into(),
+        )
+    }
+
+    // FORWARD TSN applied.
+    fn forward(&mut self, call: &mut Operands<'_>) -> Result<Answer, Malformed> {
+        let cumulative = call.u32()?;
+        let point = call.u32()?;
+        let (queue, table) = (&mut self.queue, &mut self.table);
+        Ok(forward_tsn_drops::apply_to_tsns(queue, table, cumulative, point).into())
+    }
+
+    // The calls that change nothing.
+    fn asked(&self, number: u8, call: &mut Operands<'_>) -> Result<Answer, Malformed> {
+        let queue = self.queue;
+        let table = &self.table;
+        Ok(match number {
+            17 => queue.can_push(table, call.u32()?, call.u32()?).into(),
+            21 => queued(queue.get(table, call.u32()?)),
+            24 => queue.get_last_tsn_received(table).into(),
+            25 => queue.get_num_bytes(table).into(),
+            26 => queue.len(table).into(),
+            27 => queue.is_empty(table).into(),
+            28 => queue.contains_stream(table, call.u16()?).into(),
+            _ => return Err(Malformed),
+        })
+    }
+
+    // The count of the log, or the refusal, and all places.
+    fn log<W: Write>(&mut self, out: &mut W) -> io::Result<()> {
+        match self.queue.pop_duplicates(&self.table) {
+            Ok(log) => {
+                let tsns = log.tsns;
+                write!(out, "log {}{}", log.count, Numbers(&tsns))
+            }
+            Err(refusal) => write!(out, "{refusal}{}", Numbers(&[0; LOG])),
+        }
+    }
+
+    // The number of blocks of the gap report, or the refusal, and as much of both lists as the call lends.
+    fn gaps<W: Write>(
+        &self,
+        call: &mut Operands<'_>,
+        alloc: Global,
+        out: &mut W,
+    ) -> Result<(), Fault> {
+        let cumulative = call.u32()?;
+        let n = call.places(NUMBERS)?;
+        let m = call.places(NUMBERS)?;
+        let fill = call.u16()?;
+        let mut starts = vec![in alloc; fill; n]?;
+        let mut ends = vec![in alloc; fill; m]?;
+        let told = self.queue.get_gap_ack_blocks(
+            &self.table,
+            cumulative,
+            starts.as_mut_slice(),
+            ends.as_mut_slice(),
+        );
+        let answer = told.map_or_else(Answer::Refused, Answer::Blocks);
+        write!(out, "{answer} starts{}", Numbers(starts.as_slice()))?;
+        write!(out, " ends{}", Numbers(ends.as_slice()))?;
+        Ok(())
+    }
+
+    // The counts, and the rows that they speak of.
+    fn state<W: Write>(&self, out: &mut W) -> io::Result<()> {
+        let count = self.queue.counts.count;
+        let bytes = self.queue.counts.n_bytes;
+        write!(out, "held {count} {bytes}")?;
+        for i in 0..count.min(TSNS) {
+            write!(out, " | {}", Row::of(&self.table, i))?;
+        }
+        Ok(())
+    }
+
+    fn whole<W: Write>(&self, out: &mut W) -> io::Result<()> {
+        let counts = self.queue.counts;
+        let log = digest::words(&counts.dup_tsn);
+        let words = digest::words(&self.table);
+        write!(
+            out,
+            "whole {} {} {} {log} {words}",
+            counts.count, counts.n_bytes, counts.dups
+        )
+    }
+
+    // One field of the queue, or one word of its table.
+    fn forge(&mut self, call: &mut Operands<'_>) -> Result<(), Malformed> {
+        let field = call.u8()?;
+        let index = usize::from(call.u16()?);
+        let value = call.index()?;
+        let counts = &mut self.queue.counts;
+        match field {
+            0 => counts.count = value,
+            1 => counts.n_bytes = value,
+            2 => counts.dups = value,
+            3 => counts.dup_tsn[index % LOG] = (value & 0xFFFF_FFFF) as u32,
+            4 => self.table[index % WORDS] = (value & 0xFFFF_FFFF) as u32,
+            _ => return Err(Malformed),
+        }
+        Ok(())
     }
 }
 
-pub fn written(told: Told, out: &mut [u8; SPACE], at: usize) -> Turn {
-    let queue = told.queue;
-    let told = told.told;
-    Turn {
-        queue,
-        at: answer::write(told, out, at),
-    }
-}
-
-// The count of the log, or the refusal, and all places.
-fn log(queue: PayloadQueue, table: &[u32; WORDS], out: &mut [u8; SPACE], at: usize) -> Turn {
-    let handed = queue.pop_duplicates(table);
-    let told = handed.answer;
-    let tsns = handed.tsns;
-    let queue = handed.queue;
-    let at = answer::write(number(answer::LOG, told), out, at);
-    Turn {
-        queue,
-        at: out::words(out, at, &tsns),
-    }
-}
-
-// The calls that answer with no list.
-fn plain(queue: PayloadQueue, call: &[u8], table: &mut [u32; WORDS]) -> Told {
-    match operands::u8_at(call, 0) {
-        16 => new(),
-        18 => push(queue, call, table),
-        19 => popped(queue.pop(table, operands::u32_at(call, 1))),
-        20 => dropped(queue.pop_up_to(table, operands::u32_at(call, 1))),
-        30 => forged(queue, call, table),
-        _ => Told {
-            queue,
-            told: asked(queue, call, table),
-        },
-    }
-}
-
-fn new() -> Told {
-    let queue = PayloadQueue::new();
-    Told {
-        queue,
-        told: answer::plain(answer::DONE),
-    }
-}
-
-fn push(queue: PayloadQueue, call: &[u8], table: &mut [u32; WORDS]) -> Told {
-    let chunk = operands::fields(operands::part(call, 1, 14));
-    let size = operands::u16_at(call, 14);
-    let pushed = queue.push(table, chunk, size, operands::u32_at(call, 16));
-    let told = pushed.answer;
-    let queue = pushed.queue;
-    Told {
-        queue,
-        told: flag(told),
-    }
-}
-
-fn popped(popped: Popped) -> Told {
-    let told = popped.answer;
-    let queue = popped.queue;
-    Told {
-        queue,
-        told: taken(told),
-    }
-}
-
-pub fn dropped(dropped: Dropped) -> Told {
-    let told = dropped.answer;
-    let queue = dropped.queue;
-    Told {
-        queue,
-        told: done(told),
-    }
-}
-
-// One field of the queue, or one word of its table.
-fn forged(queue: PayloadQueue, call: &[u8], table: &mut [u32; WORDS]) -> Told {
-    let mut queue = queue;
-    let index = operands::count_at(call, 2);
-    let value = operands::u64_at(call, 4);
-    match operands::u8_at(call, 1) {
-        0 => queue.count = value as usize,
-        1 => queue.n_bytes = value as usize,
-        2 => queue.dups = value as usize,
-        3 => queue.dup_tsn[index % LOG] = (value % 4294967296) as u32,
-        _ => table[index % WORDS] = (value % 4294967296) as u32,
-    }
-    Told {
-        queue,
-        told: answer::plain(answer::DONE),
-    }
-}
-
-// The calls that change nothing.
-fn asked(queue: PayloadQueue, call: &[u8], table: &[u32; WORDS]) -> Answer {
-    let tsn = operands::u32_at(call, 1);
-    match operands::u8_at(call, 0) {
-        17 => flag(queue.can_push(table, tsn, operands::u32_at(call, 5))),
-        21 => taken(queue.get(table, tsn)),
-        24 => last(queue.get_last_tsn_received(table)),
-        25 => number(answer::NUMBER, queue.get_num_bytes(table)),
-        26 => number(answer::NUMBER, queue.len(table)),
-        27 => flag(queue.is_empty(table)),
-        28 => flag(queue.contains_stream(table, operands::u16_at(call, 1))),
-        _ => whole(queue, table),
-    }
-}
-
-fn last(told: LastTsn) -> Answer {
+fn queued(told: Result<Option<Queued>, Refusal>) -> Answer {
     match told {
-        LastTsn::Tsn(tsn) => answer::one(answer::TSN, tsn as u64),
-        LastTsn::Nothing => answer::plain(answer::NONE),
-        LastTsn::Refused(k) => answer::refused(k),
+        Ok(Some(held)) => Answer::Held(held.chunk, held.size),
+        Ok(None) => Answer::Nothing,
+        Err(refusal) => Answer::Refused(refusal),
     }
-}
-
-fn taken(told: Taken) -> Answer {
-    match told {
-        Taken::Chunk(q) => queued(q),
-        Taken::Nothing => answer::plain(answer::NONE),
-        Taken::Refused(k) => answer::refused(k),
-    }
-}
-
-fn queued(q: Queued) -> Answer {
-    let chunk = q.chunk;
-    answer::fields(answer::CHUNK, 5, chunk, q.size as u64)
-}
-
-fn whole(queue: PayloadQueue, table: &[u32; WORDS]) -> Answer {
-    let log = queue.dup_tsn;
-    let bytes = queue.n_bytes as u64;
-    let dups = queue.dups as u64;
-    let logged = digest::words(&log);
-    let words = digest::words(table);
-    answer::five(
-        answer::WHOLE,
-        5,
-        queue.count as u64,
-        bytes,
-        dups,
-        logged,
-        words,
-    )
 }

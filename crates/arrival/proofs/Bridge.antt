@@ -22,7 +22,7 @@ use Rattle.loose_fragments.specs.declared.Span.{Span}
 use Rattle.fragments.specs.Pool.{cut}
 use Rattle.fragments.proofs.Pool.{joined_length}
 use Rattle.reassembly_state.specs.Limits.{frags_most, bytes_most}
-use Rattle.reassembly_state.specs.Model.{Queue, queue, held, Given, room_for, keep_ordered, move_run, keep_loose, push_ordered, push_unordered, push, Turn, finished_turn, ordered_turn, first_ppi, turn, readable, no_message, message_of, Took, took, taken}
+use Rattle.reassembly_state.specs.Model.{Queue, held, Given, room_for, keep_ordered, move_run, keep_loose, push_ordered, push_unordered, push, Turn, finished_turn, ordered_turn, first_ppi, turn, readable, no_message, message_of, Took, took, taken}
 use Rattle.reassembly_state.specs.State.{State, unsound, view, lay, After, laid, pushed, is_readable, Read, lay_taken, read}
 use Rattle.reassembly_queue.specs.Queue.{state_of, fresh}
 use Rattle.reassembly_state.proofs.Laws.{sound}

@@ -16,7 +16,7 @@ use Rattle.reassembly_state.proofs.Laws.{held-view}
 use Rattle.reassembly_theorems.proofs.Stays.{bytes-told}
 use Rattle.reassembly_theorems.proofs.Readable.{unreadable_nothing}
 use Rattle.arrival_plan.specs.Plan as model
-use Rattle.arrival.specs.Calls.{Chunk, Sent, chunks_of, Plan, Call, Push, Take, pushes, after_push, ran, Roomy, Long, Came, message, in_order, Run, Arrived, Arrival, Arrival_then_takes}
+use Rattle.arrival.specs.Calls.{Chunk, Sent, Plan, Call, Push, Take, pushes, after_push, ran, Roomy, Long, message, in_order, Run, Arrived, Arrival, Arrival_then_takes}
 use Rattle.arrival_plan.proofs.Maps.{Each, order_map, merge_map, each_order}
 use Rattle.arrival.proofs.Planned.{piece_of, cut_of, joined_bytes, Of, planned, plan_pieces, plan_stream}
 use Rattle.arrival.proofs.Bridge.{readable-is, told, events, event_pushes, Walked, walk, fresh_holds}

@@ -4,3 +4,4 @@ pub mod Calls
 pub mod Example
 pub mod Needed
 pub mod Theorem
+pub mod Listed

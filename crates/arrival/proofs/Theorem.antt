@@ -1,6 +1,6 @@
 -- Arrival order does not matter: the claims of specs/Calls, proved.
 -- Assumes nothing.
-use Rattle.arrival.specs.Calls.{Arrival, Arrival_then_takes, Arrived}
+use Rattle.arrival.specs.Calls.{Arrival, Arrival_then_takes}
 use Rattle.arrival_plan.proofs.Whole.{arrival, drained, unrefused}
 use Rattle.arrival.proofs.Calls.{arrival-of-calls, calls_then_takes}
 

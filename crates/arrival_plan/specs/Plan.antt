@@ -4,7 +4,7 @@ use Rattle.std.specs.Prelude.{◌≡◌, Bool, true, false, cond, List, [], ◌�
 use Rattle.wire_model.specs.Refusal.{none}
 use Rattle.fragments.specs.Frag.{Frag, begins, ends, ssn_of}
 use Rattle.fragments.specs.Words.{size, joined}
-use Rattle.reassembly_state.specs.Model.{Queue, queue, held, room_for, push, Turn, turn, readable, first_ppi}
+use Rattle.reassembly_state.specs.Model.{Queue, queue, held, room_for, push, turn, readable, first_ppi}
 
 -- ── messages and their cuts ──
 

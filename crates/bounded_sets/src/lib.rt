@@ -36,6 +36,7 @@ pub fn limit(table: &[u32], from: usize, n: usize, last_ssn: u16, tsn: u32) -> u
     let mut found = false;
     let mut lowest: u16 = 0;
     let mut i: usize = 0;
+    // From set to set: how far a turn goes, k rows, no range can say, and an iterator of sets would be no plainer.
     while i < n {
         let at = from + i;
         let k = set_reach::set_at(table, FRAGMENTS, at, n - i);
@@ -84,6 +85,7 @@ pub fn is_settled(
     ensures { result ≡ some_set (settles expected last_ssn tsn) (sets (map bare (take n (drop from (rows_of frags_most table.now))))) }
 {
     let mut i: usize = 0;
+    // From set to set: how far a turn goes, k rows, no range can say, and an iterator of sets would be no plainer.
     while i < n {
         let at = from + i;
         let k = set_reach::set_at(table, FRAGMENTS, at, n - i);
@@ -116,10 +118,8 @@ pub fn is_resolved(table: &[u32], from: usize, n: usize, last_ssn: u16, peer_las
 {
     let mut found = false;
     let mut lowest: u32 = 0;
-    let mut i: usize = 0;
-    while i < n {
+    for i in 0..n {
         let row = table::row_at(table, FRAGMENTS, from + i);
-        i += 1;
         if serial_ssns::sna16lte(last_ssn, (row.id % 65536) as u16) {
             lowest = lower(found, lowest, row.tsn);
             found = true;

@@ -13,7 +13,7 @@ use borrow.Author.Tests.{ltb-true, ltb-false, lt-ltb, le-ltb}
 use Rattle.serial_model.specs.Serial.{ahead}
 use Rattle.serial_model.specs.Facts.{arc_order, plus-ahead}
 use Rattle.set_reach.specs.Kept.{keeps, kept, lower, higher}
-use Rattle.bounded_theorems.specs.Conditions.{OnArc, Best, None}
+use Rattle.bounded_theorems.specs.Conditions.{OnArc, Best, NoSuch}
 
 -- better is the order of a rank, for numbers that are on
 pub record Ranked (On : ℕ → Type 0) (better : ℕ → ℕ → Bool) : Type 0 where
@@ -95,11 +95,11 @@ module _ {On : ℕ → Type 0} {better : ℕ → ℕ → Bool} (r : Ranked On be
 
     module _ (ns : List ℕ) (is : (n : ℕ) → Memᴰ n ns ↔ Is n) where
       -- what a pass keeps is it; nothing is kept where there is none
-      pub kept_best : ((n : ℕ) × Best better Is n × ◌≡◌ {A = Option ℕ} (kept better ns) (some n)) ⊎ (None Is × ◌≡◌ {A = Option ℕ} (kept better ns) none)
+      pub kept_best : ((n : ℕ) × Best better Is n × ◌≡◌ {A = Option ℕ} (kept better ns) (some n)) ⊎ (NoSuch Is × ◌≡◌ {A = Option ℕ} (kept better ns) none)
       unfolding kept
       kept_best = go ns is
         where
-          go : (ns : List ℕ) → ((n : ℕ) → Memᴰ n ns ↔ Is n) → ((n : ℕ) × Best better Is n × ◌≡◌ {A = Option ℕ} (kept better ns) (some n)) ⊎ (None Is × ◌≡◌ {A = Option ℕ} (kept better ns) none)
+          go : (ns : List ℕ) → ((n : ℕ) → Memᴰ n ns ↔ Is n) → ((n : ℕ) × Best better Is n × ◌≡◌ {A = Option ℕ} (kept better ns) (some n)) ⊎ (NoSuch Is × ◌≡◌ {A = Option ℕ} (kept better ns) none)
           go [] is = inr ((λ n i. Memᴰ.not-nil ((is n).1 i)), refl)
           go (n ∷ ns) is =
               let h = keeps_best n ns (λ m i. on m ((is m).0 i)) in

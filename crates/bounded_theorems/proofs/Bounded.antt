@@ -8,7 +8,7 @@ use mathlib.Core.Option as option
 use mathlib.Core.Option.{Option, some}
 use Prim.Native.Nat.{ℕ}
 use Rattle.wire_model.specs.Refusal.{none, says}
-use Rattle.serial_model.specs.Serial.{next, before, at_or_before}
+use Rattle.serial_model.specs.Serial.{before, at_or_before}
 use Rattle.fragments.specs.Frag.{Frag}
 use Rattle.fragment_sets.specs.Sets.{sets}
 use Rattle.set_reach.specs.Kept.{set_ssn, some_set, ssns_of, lower, higher, lowest, highest}
@@ -16,7 +16,7 @@ use Rattle.reassembly_state.specs.Model.{Queue, queue}
 use Rattle.reassembly_state.specs.State.{State, unsound, view, lay, after}
 use Rattle.reassembly_bounded.specs.Bounded.{held_back, limit, moved_to, skip_bounded, forward_bounded}
 use Rattle.reassembly_applicable.specs.Applicable.{settles, tsns_from, is_up_to, resolved, applies_whole, ends_part, applies, found_in, applicable}
-use Rattle.bounded_theorems.specs.Conditions.{OnArc, Domain, Best, SsnOf, TsnFrom, None, Limit, Skips, Whole, Part, Applies}
+use Rattle.bounded_theorems.specs.Conditions.{OnArc, Domain, Best, SsnOf, TsnFrom, NoSuch, Limit, Skips, Whole, Part, Applies}
 use Rattle.bounded_theorems.proofs.Best.{lower_ranked, higher_ranked, best_one, kept_best}
 use Rattle.bounded_theorems.proofs.Held.{set-of, ssns_are, some_in, some_of, tsns_are}
 
@@ -29,7 +29,7 @@ module _ (l : List Frag) (d : Domain l) where
 
   -- the lowest and the highest SSN of the sets that do, the lowest TSN: what a pass keeps
   abbrev Kept : (ℕ → ℕ → Bool) → (ℕ → Type 0) → Option ℕ → Type 0
-  Kept better Is o = ((n : ℕ) × Best better Is n × ◌≡◌ {A = Option ℕ} o (some n)) ⊎ (None Is × ◌≡◌ {A = Option ℕ} o option.none)
+  Kept better Is o = ((n : ℕ) × Best better Is n × ◌≡◌ {A = Option ℕ} o (some n)) ⊎ (NoSuch Is × ◌≡◌ {A = Option ℕ} o option.none)
 
   lowest-ssn : (p : List Frag → Bool) → Kept (lower 16) (SsnOf p l) (lowest 16 (ssns_of p (sets l)))
   lowest-ssn p = kept_best (lower_ranked 15 d.ssn_base d.ssn_fits) (ssn-on p) (ssns_of p (sets l)) (ssns_are p l)

@@ -41,14 +41,14 @@ SsnOf p l n = (m : List Frag) × Memᴰ m (sets l) × (p m ≡ true) × (set_ssn
 abbrev pub TsnFrom : ℕ → List Frag → ℕ → Type 0
 TsnFrom s l n = (x : Frag) × Memᴰ x l × (at_or_before 16 s (ssn_of x) ≡ true) × (x.tsn ≡ n)
 
-abbrev pub None : (ℕ → Type 0) → Type 0
-None Is = (n : ℕ) → Is n → ⊥
+abbrev pub NoSuch : (ℕ → Type 0) → Type 0
+NoSuch Is = (n : ℕ) → Is n → ⊥
 
 -- ── the skip ──
 
 -- how far the expected SSN may move: to the lowest SSN of the sets at or before s that the point does not reach; to s + 1 where it reaches all
 abbrev pub Limit : ℕ → ℕ → List Frag → ℕ → Type 0
-Limit s t l n = Best (lower 16) (SsnOf (held_back s t) l) n ⊎ (None (SsnOf (held_back s t) l) × (n ≡ next 16 s))
+Limit s t l n = Best (lower 16) (SsnOf (held_back s t) l) n ⊎ (NoSuch (SsnOf (held_back s t) l) × (n ≡ next 16 s))
 
 -- q' is q after the skip to s with point t: the incomplete sets at or before s that the point reaches are gone, and the expected SSN is the limit if
 -- it was before it
@@ -75,7 +75,7 @@ Whole q s t p =
 abbrev pub Part : Queue → ℕ → ℕ → ℕ → Option ℕ → Type 0
 Part q s t p o =
     let Ends = SsnOf (ends_part q.next s t p) q.ordered in
-    ((n : ℕ) × Best (higher 16) Ends n × ◌≡◌ {A = Option ℕ} o (some n)) ⊎ (None Ends × ◌≡◌ {A = Option ℕ} o none)
+    ((n : ℕ) × Best (higher 16) Ends n × ◌≡◌ {A = Option ℕ} o (some n)) ⊎ (NoSuch Ends × ◌≡◌ {A = Option ℕ} o none)
 
 abbrev pub Applies : Queue → ℕ → ℕ → ℕ → Option ℕ → Type 0
 Applies q s t p o = (Whole q s t p × ◌≡◌ {A = Option ℕ} o (some s)) ⊎ ((Whole q s t p → ⊥) × Part q s t p o)

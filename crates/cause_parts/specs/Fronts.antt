@@ -1,14 +1,12 @@
 -- The cause at a place of a chunk, and the chunk in a cause's value: what is answered of each.
 -- Assumes nothing.
-use Rattle.std.specs.Prelude.{◌≡◌, ℕ, ◌+◌, ◌≤◌, List, [], length, take, drop}
+use Rattle.std.specs.Prelude.{◌≡◌, ℕ, ◌+◌, ◌≤◌, List, [], length, take, drop, Result, Ok, Err, Option, Some, None}
 use Rattle.wire_model.specs.Refusal.{none, refuse, first}
+use Rattle.refusal.specs.Told.{number}
+use Rattle.refusal.specs.declared.Refusal.{Refusal}
 use Rattle.packet_parts.specs.Fronts.{left_checks}
 use Rattle.cause_parts.specs.Causes.{cause_code, cause_size, cause_checks, chunk_causes}
 use Rattle.cause_parts.specs.declared.CauseHeader.{CauseHeader}
-use Rattle.cause_parts.specs.declared.Front.{Front}
-use Rattle.cause_parts.specs.declared.Front.TheVariants as fronts
-use Rattle.cause_parts.specs.declared.Held.{Held}
-use Rattle.cause_parts.specs.declared.Held.TheVariants as helds
 
 -- the cause that bytes begin with passes, and has this code and size
 pub record CauseThere (bytes : List ℕ) (h : CauseHeader) : Type 0 where
@@ -19,9 +17,9 @@ pub record CauseThere (bytes : List ℕ) (h : CauseHeader) : Type 0 where
   pub within : h.size ≤ length bytes
 
 -- what each case says of the bytes at a place
-abbrev pub CauseAt : List ℕ → Front → Type 0
-CauseAt bytes (fronts.Cause h) = CauseThere bytes h
-CauseAt bytes (fronts.Refused k) = first (cause_checks bytes) ≡ refuse k
+abbrev pub CauseAt : List ℕ → Result CauseHeader Refusal → Type 0
+CauseAt bytes (Ok h) = CauseThere bytes h
+CauseAt bytes (Err e) = first (cause_checks bytes) ≡ refuse (number e)
 
 -- the chunk that the bytes from a place on begin with has causes, up to an end
 pub record CausesThere (raw : List ℕ) (at end : ℕ) : Type 0 where
@@ -30,7 +28,7 @@ pub record CausesThere (raw : List ℕ) (at end : ℕ) : Type 0 where
   pub four : at + 4 ≤ end
   pub within : end ≤ length raw
 
-abbrev pub ChunkAt : List ℕ → ℕ → Held → Type 0
-ChunkAt raw at (helds.Causes end) = CausesThere raw at end
-ChunkAt raw at helds.Nothing = (first (left_checks (drop at raw)) ≡ none) × (chunk_causes (drop at raw) ≡ [])
-ChunkAt raw at (helds.Refused k) = first (left_checks (drop at raw)) ≡ refuse k
+abbrev pub ChunkAt : List ℕ → ℕ → Result (Option ℕ) Refusal → Type 0
+ChunkAt raw at (Ok (Some end)) = CausesThere raw at end
+ChunkAt raw at (Ok None) = (first (left_checks (drop at raw)) ≡ none) × (chunk_causes (drop at raw) ≡ [])
+ChunkAt raw at (Err e) = first (left_checks (drop at raw)) ≡ refuse (number e)

@@ -39,6 +39,12 @@ module _ (r : Reading) (l : Lists) where
   fault_listed e = rw (counted-refused 0 r e)
 
   module _ {n : ℕ} (e : says none n ≡ counted 0 r) where
+    -- what was counted once without a fault has none in a later pass
+    pub no_fault : {k : ℕ} → says (refuse k) 0 ≡ counted 0 r → ⊥
+    no_fault {k} f =
+        let f : none ≡ refuse k = sym (counted-all 0 r e).0 ∙ counted-refused 0 r f in
+        let z : ◌≡◌ {A = ℕ} 0 1 = cc in absurd (omega arith)
+
     all : (r.fault ≡ none) × (n ≡ length r.causes)
     all = let a = counted-all 0 r e in let z : 0 + length r.causes ≡ length r.causes = omega arith in (a.0, a.1 ∙ z)
 

@@ -4,15 +4,16 @@
 ghost use Rattle.std.specs.Prelude.{◌≡◌, ◌≤◌, length, drop};
 ghost use Rattle.cause_parts.specs.Causes.{causes};
 ghost use Rattle.cause_parts.specs.Lists.{lists};
-ghost use Rattle.error_causes.specs.Counts.{count_told, counted};
+ghost use Rattle.refusal.specs.Told.{count_told};
+ghost use Rattle.error_causes.specs.Counts.{counted};
 ghost use Rattle.cause_report.specs.Report.{lacking, report, listed, reported};
 
 use cause_notes::{CODES, DEPTHS, SIZES, STARTS};
 use chunk::chunk_header;
-use error_causes::Counted;
+use refusal::Refusal;
 
 // How many causes a chunk has, or its first fault. Nothing is written: the dry pass.
-fn count(raw: &[u8]) -> Counted
+fn count(raw: &[u8]) -> Result<usize, Refusal>
     requires in_bounds { 4 ≤ length raw.now }
     requires raw_len_bound { length raw.now ≤ 65535 }
     ensures { count_told result ≡ counted 0 (causes 0 4 (drop 4 raw.now)) }
@@ -44,24 +45,19 @@ fn list(
     depths: &mut [u16],
     starts: &mut [u16],
     sizes: &mut [u16],
-) -> Counted
+) -> Result<usize, Refusal>
     requires in_bounds { 4 ≤ length raw.now }
     requires raw_len_bound { length raw.now ≤ 65535 }
     ensures { report (count_told result) (lists codes.new depths.new starts.new sizes.new) ≡ listed (causes 0 4 (drop 4 raw.now)) (lists codes.old depths.old starts.old sizes.old) }
 {
-    let all = count(raw);
-    match all {
-        Counted::Refused(k) => Counted::Refused(k),
-        Counted::Causes(n) => {
-            if lacks(n, codes.len(), depths.len(), starts.len(), sizes.len()) {
-                return Counted::Refused(10);
-            }
-            error_causes::read_causes(raw, 4, 0, 0, CODES, codes);
-            error_causes::read_causes(raw, 4, 0, 0, DEPTHS, depths);
-            error_causes::read_causes(raw, 4, 0, 0, STARTS, starts);
-            error_causes::read_causes(raw, 4, 0, 0, SIZES, sizes)
-        }
+    let n = count(raw)?;
+    if lacks(n, codes.len(), depths.len(), starts.len(), sizes.len()) {
+        return Err(Refusal::ShortOutput);
     }
+    error_causes::read_causes(raw, 4, 0, 0, CODES, codes)?;
+    error_causes::read_causes(raw, 4, 0, 0, DEPTHS, depths)?;
+    error_causes::read_causes(raw, 4, 0, 0, STARTS, starts)?;
+    error_causes::read_causes(raw, 4, 0, 0, SIZES, sizes)
 }
 
 // The causes of a chunk of this type, ERROR or ABORT.
@@ -72,15 +68,10 @@ pub fn unmarshal_as(
     depths: &mut [u16],
     starts: &mut [u16],
     sizes: &mut [u16],
-) -> Counted
+) -> Result<usize, Refusal>
     ensures { report (count_told result) (lists codes.new depths.new starts.new sizes.new) ≡ reported kind raw.now (lists codes.old depths.old starts.old sizes.old) }
 {
-    let front = chunk_header::unmarshal_as(raw, kind, 4, 2);
-    match front {
-        chunk_header::Unmarshalled::Refused(k) => Counted::Refused(k),
-        chunk_header::Unmarshalled::Header(h) => {
-            let end = h.length as usize;
-            list(&raw[..end], codes, depths, starts, sizes)
-        }
-    }
+    let h = chunk_header::unmarshal_as(raw, kind, 4).map_err(|e| e.told(Refusal::BadLength))?;
+    let end = h.length as usize;
+    list(&raw[..end], codes, depths, starts, sizes)
 }

@@ -10,17 +10,21 @@ use lib.ListN.{length, take, drop, length-append, length-drop}
 use lib.Seq.{length-take-le, take-add, drop_at}
 use denote.Ref.{Bor}
 use borrow.Rule.Slice.PartMut.{mid_of, put_mid}
+use Rattle.std.specs.Prelude.{Result, Ok, Err, MatchResult, IsErrAnd}
+use Rattle.std.proofs.lemmas.Result.{err_from_is_err_and}
 use Rattle.wire_model.specs.BigEndian.{big_endian, over}
-use Rattle.wire_model.specs.Refusal.{Check, none, refuse, first, says}
+use Rattle.wire_model.specs.Refusal.{Check, none, refuse, first, Told, says}
 use Rattle.wire.specs.Front.{Front}
 use Rattle.wire.proofs.Reading.{Whole, whole-front, shorter, begins_with, refused, accepted, first-refused, first-passed, none_holds}
 use Rattle.wire.proofs.Writing.{behind}
-use Rattle.chunk.specs.Layout.{Header, header, header_bytes, chunk}
-use Rattle.chunk.specs.Header.{HeaderFront, kind_checks, header_told, header_read, Headed, HeadedFits, headed_bytes}
-use Rattle.chunk.specs.Part.{Part, part_of}
+use Rattle.refusal.specs.declared.Refusal as reasons
+use Rattle.refusal.specs.Told.{number}
 use Rattle.chunk.specs.declared.chunk_header.ChunkHeader.{ChunkHeader}
-use Rattle.chunk.specs.declared.chunk_header.Unmarshalled.{Unmarshalled}
-use Rattle.chunk.specs.declared.chunk_header.Unmarshalled.TheVariants as answers
+use Rattle.chunk.specs.declared.chunk_header.Unfit.{Unfit}
+use Rattle.chunk.specs.declared.chunk_header.Unfit.TheVariants.{Refused, Below}
+use Rattle.chunk.specs.Layout.{Header, header, header_bytes, chunk}
+use Rattle.chunk.specs.Header.{HeaderFront, kind_checks, header_told, header_as_told, short_as, header_read, Headed, HeadedFits, headed_bytes}
+use Rattle.chunk.specs.Part.{Part, part_of}
 
 pub header-length : (h : Header) → length (header_bytes h) ≡ 4
 unfolding big_endian header_bytes
@@ -49,38 +53,42 @@ header-whole f long = record { long = long; sized = header-length f.fields; begi
 abbrev nothing : Header
 nothing = header 0 0 0
 
-module _ (cs : List Check) (h : Header) (r : Unmarshalled) (t : header_told r ≡ header_read cs h) where
-  pub told-refused : {k : ℕ} → r ≡ answers.Refused k → first cs ≡ refuse k
+module _ (cs : List Check) (h : Header) where
+  pub told-refused : {k : ℕ} → says (refuse k) nothing ≡ header_read cs h → first cs ≡ refuse k
   unfolding header_read
-  told-refused e = refused nothing h (first cs) (rw e at t)
+  told-refused t = refused nothing h (first cs) t
 
   -- the checks pass, and the header is the one in front
-  pub told-taken : {x : ChunkHeader} → r ≡ answers.Header x → (first cs ≡ none) × (header x.typ x.flags x.length ≡ h)
+  pub told-taken : {x : Header} → says none x ≡ header_read cs h → (first cs ≡ none) × (x ≡ h)
   unfolding header_read
-  told-taken e = accepted nothing h (first cs) (rw e at t)
+  told-taken t = accepted nothing h (first cs) t
+
+-- told with the number of its type, an answer says what one that may be unfit says with that number
+pub told_short : (short : reasons.Refusal) {Q : Unfit → reasons.Refusal → Type 0} → ((e : Unfit) (d : reasons.Refusal) → Q e d → d ≡ short_as short e) → (r : Result ChunkHeader Unfit) (s : Result ChunkHeader reasons.Refusal)
+    → MatchResult r (λ h. s ≡ Ok h) (λ e. IsErrAnd s (Q e)) → header_told s ≡ header_as_told (number short) r
+told_short short says_so (Ok h) s e = rw e
+told_short short says_so (Err Below) s e = let p = err_from_is_err_and s e in rw (p.1, says_so Below p.0 p.2)
+told_short short says_so (Err (Refused k)) s e = let p = err_from_is_err_and s e in rw (p.1, says_so (Refused k) p.0 p.2)
 
 -- ── checks behind a header's own ──
 
 -- A header was read by the checks `cs`, and `more` are asked of it next: what `cs` refuse is refused; what they let through is what `more` say of the header that was read.
-module _ (cs : List Check) (more : Header → List Check) (h : Header) (r : Unmarshalled) (t : header_told r ≡ header_read cs h) where
-  pub more-refused : {k : ℕ} → r ≡ answers.Refused k → says (refuse k) nothing ≡ header_read (cs ++ more h) h
+module _ (cs : List Check) (more : Header → List Check) (h : Header) where
+  pub more-refused : {k : ℕ} → says (refuse k) nothing ≡ header_read cs h → says (refuse k) nothing ≡ header_read (cs ++ more h) h
   unfolding header_read
-  more-refused e = rw (first-refused cs (more h) (told-refused cs h r t e))
+  more-refused t = rw (first-refused cs (more h) (told-refused cs h t))
 
-  module _ {x : ChunkHeader} (e : r ≡ answers.Header x) where
-    abbrev was_read : Header
-    was_read = header x.typ x.flags x.length
+  module _ {x : Header} (t : says none x ≡ header_read cs h) where
+    decided : first (cs ++ more h) ≡ first (more x)
+    decided = let u = told-taken cs h t in first-passed cs (more h) u.0 ∙ ap (λ (y : Header). first (more y)) (sym u.1)
 
-    decided : first (cs ++ more h) ≡ first (more was_read)
-    decided = let u = told-taken cs h r t e in first-passed cs (more h) u.0 ∙ ap (λ (y : Header). first (more y)) (sym u.1)
-
-    pub more_failed : {k : ℕ} → first (more was_read) ≡ refuse k → says (refuse k) nothing ≡ header_read (cs ++ more h) h
+    pub more_failed : {k : ℕ} → first (more x) ≡ refuse k → says (refuse k) nothing ≡ header_read (cs ++ more h) h
     unfolding header_read
     more_failed f = rw (decided, f)
 
-    pub more-passed : first (more was_read) ≡ none → says none was_read ≡ header_read (cs ++ more h) h
+    pub more-passed : first (more x) ≡ none → says none x ≡ header_read (cs ++ more h) h
     unfolding header_read
-    more-passed f = rw (decided, f) (ap (says none) (told-taken cs h r t e).1)
+    more-passed f = rw (decided, f) (ap (says none) (told-taken cs h t).1)
 
 -- ── a header that passes ──
 
@@ -175,6 +183,6 @@ module _ {A : Type 0} (value : A → List ℕ) (kind flags n : ℕ) (a : A) (mor
 -- ── a part of a chunk ──
 
 -- where nothing is refused it has the bytes that stand there
-pub part-back : (checks : ℕ → List Check) (start size : ℕ) (raw : Bor (List ℕ)) {bytes : List ℕ} {p : Part} → raw.now ≡ bytes → first (checks (length bytes)) ≡ none
-    → p ≡ part_of (first (checks (length raw.now))) start size raw → (p.refusal ≡ 255) × (p.bytes ≡ take size (drop start bytes))
-part-back checks start size raw e n q = let t = rw (e, n) at q in (ap (λ (x : Part). x.refusal) t, ap (λ (x : Part). x.bytes) t)
+pub part-back : (checks : ℕ → List Check) (start size : ℕ) (raw : Bor (List ℕ)) {bytes : List ℕ} {t : Told Part} → raw.now ≡ bytes → first (checks (length bytes)) ≡ none
+    → t ≡ part_of (first (checks (length raw.now))) start size raw → (t.refusal ≡ none) × (t.values.bytes ≡ take size (drop start bytes))
+part-back checks start size raw e n q = let t = rw (e, n) at q in (ap (λ (x : Told Part). x.refusal) t, ap (λ (x : Told Part). x.values.bytes) t)

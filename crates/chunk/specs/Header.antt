@@ -1,11 +1,14 @@
 -- Reading a header: what is refused, and what an answer says.
 -- Assumes nothing.
-use Rattle.std.specs.Prelude.{ℕ, ◌≤◌, not, ◌||◌, List, [], ◌∷◌, ◌++◌, ltb, eqb}
+use Rattle.std.specs.Prelude.{ℕ, ◌≤◌, not, ◌||◌, List, [], ◌∷◌, ◌++◌, ltb, eqb, Result, Ok, Err}
 use Rattle.wire_model.specs.Refusal.{none, refuse, Check, when, first, Told, says, answer}
+use Rattle.refusal.specs.declared.Refusal.{Refusal}
+use Rattle.refusal.specs.Told.{number, answer_told}
 use Rattle.wire.specs.Front.{Front}
 use Rattle.chunk.specs.Layout.{Header, header, HeaderFits, header_bytes}
-use Rattle.chunk.specs.declared.chunk_header.Unmarshalled.{Unmarshalled}
-use Rattle.chunk.specs.declared.chunk_header.Unmarshalled.TheVariants as answers
+use Rattle.chunk.specs.declared.chunk_header.ChunkHeader.{ChunkHeader}
+use Rattle.chunk.specs.declared.chunk_header.Unfit.{Unfit}
+use Rattle.chunk.specs.declared.chunk_header.Unfit.TheVariants.{Refused, Below}
 
 -- the header that the lent bytes begin with
 abbrev pub HeaderFront : List ℕ → Type 0
@@ -22,18 +25,31 @@ kind_only kind least short h = when (not (eqb h.kind kind)) 3 ∷ when (ltb h.si
 abbrev pub kind_checks : ℕ → ℕ → ℕ → ℕ → Header → List Check
 kind_checks kind least short lent h = header_checks lent h ++ kind_only kind least short h
 
--- the number and the values of each case: type, flags, length
-abbrev pub header_told : Unmarshalled → Told Header
-header_told (answers.Header h) = says none (header h.typ h.flags h.length)
-header_told (answers.Refused k) = says (refuse k) (header 0 0 0)
+-- what an answer has: type, flags, length
+abbrev pub header_of : ChunkHeader → Header
+header_of h = header h.typ h.flags h.length
+
+abbrev pub header_told : Result ChunkHeader Refusal → Told Header
+header_told = answer_told (header 0 0 0) header_of
+
+-- the refusal where those below the least length of a type are refused with this one
+abbrev pub short_as : Refusal → Unfit → Refusal
+short_as short (Refused e) = e
+short_as short Below = short
+
+-- what an answer says that was asked for a chunk of one type, where below the least length of the type it has this number
+abbrev pub header_as_told : ℕ → Result ChunkHeader Unfit → Told Header
+header_as_told short (Ok h) = says none (header_of h)
+header_as_told short (Err (Refused e)) = says (refuse (number e)) (header 0 0 0)
+header_as_told short (Err Below) = says (refuse short) (header 0 0 0)
 
 unfoldable pub header_read : List Check → Header → Told Header
 header_read checks h = answer (header 0 0 0) (first checks) h
 
 -- where a header comes back its length is at least the least of its type, and at most what is lent
-abbrev pub Room : ℕ → ℕ → Unmarshalled → Type 0
-Room least lent (answers.Header h) = (least ≤ h.length) × (h.length ≤ lent)
-Room least lent (answers.Refused k) = Unit {0}
+abbrev pub Room : {E : Type 0} → ℕ → ℕ → Result ChunkHeader E → Type 0
+Room least lent (Ok h) = (least ≤ h.length) × (h.length ≤ lent)
+Room least lent (Err e) = Unit {0}
 
 -- ── a header with the fields behind it ──
 

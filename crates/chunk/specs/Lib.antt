@@ -1,4 +1,3 @@
 pub mod Layout
 pub mod Header
 pub mod Part
-pub mod Marshal

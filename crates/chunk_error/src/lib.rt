@@ -3,10 +3,10 @@
 
 ghost use Rattle.std.specs.Prelude.{◌≡◌};
 ghost use Rattle.cause_parts.specs.Lists.{lists};
-ghost use Rattle.error_causes.specs.Counts.{count_told};
+ghost use Rattle.refusal.specs.Told.{count_told};
 ghost use Rattle.cause_report.specs.Report.{report, reported};
 
-use error_causes::Counted;
+use refusal::Refusal;
 
 // How many causes the chunk has, those of enclosed chunks among them; their codes, depths, and where their values stand, in the lent lists.
 pub fn unmarshal(
@@ -15,7 +15,7 @@ pub fn unmarshal(
     depths: &mut [u16],
     starts: &mut [u16],
     sizes: &mut [u16],
-) -> Counted
+) -> Result<usize, Refusal>
     ensures { report (count_told result) (lists codes.new depths.new starts.new sizes.new) ≡ reported 9 raw.now (lists codes.old depths.old starts.old sizes.old) }
 {
     cause_report::unmarshal_as(raw, cause_parts::ERROR, codes, depths, starts, sizes)

@@ -1,7 +1,9 @@
 -- Reading and writing a DATA chunk.
 -- Assumes nothing.
-use Rattle.std.specs.Prelude.{ℕ, List, length}
-use Rattle.wire_model.specs.Refusal.{none, refuse, first, Told, says, answer, Written, write}
+use Rattle.std.specs.Prelude.{ℕ, List, length, Result}
+use Rattle.wire_model.specs.Refusal.{first, Told, answer, Written, write}
+use Rattle.refusal.specs.declared.Refusal.{Refusal}
+use Rattle.refusal.specs.Told.{answer_told}
 use Rattle.data_marshal.specs.Layout.{DataFits, data_value, data_chunk}
 use Rattle.chunk.specs.Header.{Headed, HeadedFront}
 use Rattle.data_fields.specs.Fields.{Data, DataValues, no_data, data_shown, data_held, data_flags, data_sent}
@@ -9,15 +11,12 @@ use Rattle.data_fields.specs.declared.ChunkPayloadData.{ChunkPayloadData}
 pub use Rattle.data_marshal.specs.Checks.{size_checks}
 pub use Rattle.data_header.specs.Checks.{data_only, data_checks}
 unfoldable pub use Rattle.data_header.specs.Checks.{user_data}
-use Rattle.chunk_payload_data.specs.declared.Unmarshalled.{Unmarshalled}
-use Rattle.chunk_payload_data.specs.declared.Unmarshalled.TheVariants as answers
 
 -- ── reading ──
 
--- the number and the values of each case
-abbrev pub data_told : Unmarshalled → Told DataValues
-data_told (answers.Fields p) = says none (data_held p)
-data_told (answers.Refused k) = says (refuse k) no_data
+-- the values are those that the struct holds
+abbrev pub data_told : Result ChunkPayloadData Refusal → Told DataValues
+data_told = answer_told no_data data_held
 
 -- the fields that the lent bytes begin with
 abbrev pub DataFront : List ℕ → Type 0

@@ -3,33 +3,21 @@
 
 ghost use Rattle.std.specs.Prelude.{◌≡◌, ◌≤◌, length};
 ghost use Rattle.wire_model.specs.Refusal.{written};
-ghost use Rattle.chunk.specs.Marshal.{marshal_told};
+ghost use Rattle.refusal.specs.Told.{count_told};
 ghost use Rattle.chunk_payload_data.specs.Data.{DataFront, data_told, data_read, data_written};
 ghost use Rattle.data_fields.specs.Fields.{data_held, data_shown};
 
-use chunk::{Marshalled, chunk_header};
 pub use data_fields::{ChunkPayloadData, flags_of};
 pub use data_header::{header, user_data};
 pub use payload_identifier::PayloadProtocolIdentifier;
-
-#[derive(Clone, Copy)]
-pub enum Unmarshalled {
-    Fields(ChunkPayloadData),
-    Refused(u8),
-}
+use refusal::Refusal;
 
 // The fields of the DATA chunk that the lent bytes begin with.
-pub fn unmarshal(raw: &[u8]) -> Unmarshalled
+pub fn unmarshal(raw: &[u8]) -> Result<ChunkPayloadData, Refusal>
     ensures { (f : DataFront raw.now) → data_told result ≡ data_read (length raw.now) f.fields }
 {
-    let any = header(raw);
-    match any {
-        chunk_header::Unmarshalled::Refused(k) => Unmarshalled::Refused(k),
-        chunk_header::Unmarshalled::Header(h) => {
-            let flags = h.flags;
-            Unmarshalled::Fields(fields(raw, flags))
-        }
-    }
+    let h = header(raw)?;
+    Ok(fields(raw, h.flags))
 }
 
 // The fields behind a header with these flags.
@@ -54,8 +42,8 @@ fn fields(raw: &[u8], flags: u8) -> ChunkPayloadData
 }
 
 // The DATA chunk of these fields and this user data, written to the front of the lent buffer.
-pub fn marshal_to(out: &mut [u8], fields: ChunkPayloadData, user: &[u8]) -> Marshalled
-    ensures { written (marshal_told result) out.new ≡ data_written fields user.now out.old }
+pub fn marshal_to(out: &mut [u8], fields: ChunkPayloadData, user: &[u8]) -> Result<usize, Refusal>
+    ensures { written (count_told result) out.new ≡ data_written fields user.now out.old }
 {
     let flags = flags_of(fields);
     data_marshal::marshal_to(

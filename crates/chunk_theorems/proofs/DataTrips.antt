@@ -10,8 +10,10 @@ use lib.Dec.{eqb}
 use lib.ListN.{length, take, drop, length-drop}
 use lib.Seq.{take_all, take_at}
 use denote.Ref.{Bor}
+use Rattle.std.specs.Prelude.{Result, Ok}
 use Rattle.wire_model.specs.BigEndian.{over}
-use Rattle.wire_model.specs.Refusal.{none, says, first, written}
+use Rattle.wire_model.specs.Refusal.{none, says, first, Told, written}
+use Rattle.refusal.specs.declared.Refusal.{Refusal}
 use Rattle.chunk.specs.Layout.{Header, header}
 use Rattle.data_fields.specs.Fields.{Data}
 use Rattle.chunk_payload_data.specs.Layout.{DataFits, data_value, data_chunk}
@@ -25,8 +27,6 @@ use Rattle.chunk_payload_data.specs.Data.{data_told, DataFront, data_only, data_
 use Rattle.data_fields.specs.declared.ChunkPayloadData.{ChunkPayloadData}
 use Rattle.payload_identifier.specs.declared.PayloadProtocolIdentifier.{PayloadProtocolIdentifier}
 use Rattle.payload_identifier.specs.declared.PayloadProtocolIdentifier.TheVariants.{Dcep, String, Binary, StringEmpty, BinaryEmpty, Unknown}
-use Rattle.chunk_payload_data.specs.declared.Unmarshalled as «data»
-use Rattle.chunk_payload_data.specs.declared.Unmarshalled.TheVariants as data_is
 use Rattle.chunk.proofs.Headers.{header-front, passes, headed_accepted, chunk_front, chunk-behind, chunk_passes, part-back}
 use Rattle.data_marshal.proofs.DataBytes.{data_value-length}
 use Rattle.chunk_theorems.proofs.OneAnswer.{data_told-one}
@@ -69,13 +69,13 @@ module _ (flags : ℕ) (d : Data) (user rest : List ℕ) (s : Sendable flags d u
       ∙ rw (ne_eqb (16 + length user) 16 (λ e. omega (arith, s.some, e)))
 
   -- so what meets the promise of `unmarshal` has its fields
-  pub data_read-back : (r : «data».Unmarshalled) → ((f : DataFront bytes) → data_told r ≡ data_read (length bytes) f.fields) → data_told r ≡ says none (data_shown flags d)
+  pub data_read-back : (r : Result ChunkPayloadData Refusal) → ((f : DataFront bytes) → data_told r ≡ data_read (length bytes) f.fields) → data_told r ≡ says none (data_shown flags d)
   unfolding data_read
   data_read-back r promise = rw data_passes at (promise data_front)
 
 -- and what meets the promise of `user_data` has its user data
 pub user_data-back : (flags : ℕ) (d : Data) (user rest : List ℕ) → Sendable flags d user → (raw : Bor (List ℕ)) → raw.now ≡ data_chunk flags d user ++ rest
-    → {p : Part} → ((f : HeaderFront raw.now) → p ≡ user_data raw f.fields) → (p.refusal ≡ 255) × (p.bytes ≡ user)
+    → {p : Told Part} → ((f : HeaderFront raw.now) → p ≡ user_data raw f.fields) → (p.refusal ≡ none) × (p.values.bytes ≡ user)
 unfolding user_data
 user_data-back flags d user rest s raw e {p} promise =
     let f = header-front data_value DataFits 12 (data_front flags d user rest s) in
@@ -145,9 +145,9 @@ module _ (p : ChunkPayloadData) where
       rw (f.unordered, f.beginning, f.ending, f.immediate)
 
   -- read behind a write into any buffer, the struct comes back
-  pub data_written-read : (user rest : List ℕ) → Sendable (data_flags p) (data_sent p) user → (r : «data».Unmarshalled)
+  pub data_written-read : (user rest : List ℕ) → Sendable (data_flags p) (data_sent p) user → (r : Result ChunkPayloadData Refusal)
       → (let raw = data_chunk (data_flags p) (data_sent p) user ++ rest in (f : DataFront raw) → data_told r ≡ data_read (length raw) f.fields)
-      → r ≡ data_is.Fields p
+      → r ≡ Ok p
   data_written-read user rest s r promise = data_told-one (data_read-back (data_flags p) (data_sent p) user rest s r promise ∙ ap (says none) sent_shown)
 
 -- ── writing what was read gives the same bytes ──
@@ -192,7 +192,7 @@ data_read-written raw f e plain p held =
 -- "Reading then writing now returns the same bytes": what meets the promise of `unmarshal` with fields, written with the data behind them into any buffer
 -- that has room, leaves the chunk's own bytes at its front
 pub data_same_bytes : (raw : List ℕ) (f : DataFront raw) → Plain f.fields.header raw
-    → (p : ChunkPayloadData) → ((g : DataFront raw) → data_told (data_is.Fields p) ≡ data_read (length raw) g.fields)
+    → (p : ChunkPayloadData) → ((g : DataFront raw) → data_told (Ok p) ≡ data_read (length raw) g.fields)
     → (out : List ℕ) → length raw ≤ length out → data_written p (drop 16 raw) out ≡ written (says none (length raw)) (over out raw)
 unfolding data_read data_written
 data_same_bytes raw f plain p promise out room =

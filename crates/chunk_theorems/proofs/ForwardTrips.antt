@@ -9,7 +9,9 @@ use lib.ListN.{length, get_or, take, drop, set}
 use lib.Seq.{take_at}
 use denote.Ref.{Bor}
 use Rattle.wire_model.specs.BigEndian.{big_endian}
-use Rattle.wire_model.specs.Refusal.{none, says, first}
+use Rattle.std.specs.Prelude.{Result, Ok}
+use Rattle.wire_model.specs.Refusal.{none, says, first, Told}
+use Rattle.refusal.specs.declared.Refusal.{Refusal}
 use Rattle.wire_model.specs.Facts.{big_endian-length}
 use Rattle.wire.proofs.Reading.{first-passed, none_holds, none_both}
 use Rattle.wire.proofs.Exists.{Bytes}
@@ -20,9 +22,8 @@ use Rattle.chunk.proofs.Headers.{header-front, passes, headed_accepted, chunk_fr
 use Rattle.entries.proofs.Entries.{entries_length, entry_begins, any-pairs, entry_bytes}
 use Rattle.chunk_forward_tsn.specs.Layout.{pair, pairs_bytes, forward_tsn_chunk}
 use Rattle.chunk_forward_tsn.specs.ForwardTsn.{forward, forward_told, Word, ForwardFront, pairs_only, forward_checks, forward_read, pairs_part, PairFront, pair_told, pair_read}
-use Rattle.chunk_forward_tsn.specs.declared.Unmarshalled.{Unmarshalled}
-use Rattle.chunk_forward_tsn.specs.declared.Unmarshalled.TheVariants.{Fields}
-use Rattle.forward_tsn_entries.specs.declared.StreamAt.{StreamAt}
+use Rattle.chunk_forward_tsn.specs.declared.ChunkForwardTsn.{ChunkForwardTsn}
+use Rattle.forward_tsn_entries.specs.declared.ChunkForwardTsnStream.{ChunkForwardTsnStream}
 use Rattle.forward_tsn_marshal.proofs.ForwardBytes.{pair_entries, bytes-pairs}
 use Rattle.chunk_theorems.proofs.OneAnswer.{forward-told-one}
 
@@ -89,12 +90,12 @@ module _ (flags point : ℕ) (streams ssns rest : List ℕ) (s : Sendable flags 
       ∙ rw (eq-eqb ((8 + length pairs) % 4) 0 (omega (arith, size)))
 
   -- so what meets the promise of `unmarshal` has its point and the number of its pairs
-  pub forward-read-back : (r : Unmarshalled) → ((f : ForwardFront bytes) → forward_told r ≡ forward_read (length bytes) f.fields) → forward_told r ≡ says none (forward point (length streams))
+  pub forward-read-back : (r : Result ChunkForwardTsn Refusal) → ((f : ForwardFront bytes) → forward_told r ≡ forward_read (length bytes) f.fields) → forward_told r ≡ says none (forward point (length streams))
   unfolding forward_read
   forward-read-back r promise = let count : (8 + length pairs - 8) / 4 ≡ length streams = omega (arith, size) in rw (forward_passes, count) at (promise forward-front)
 
   -- and what meets the promise of `streams` has its pairs
-  pub pairs-part-back : (raw : Bor (List ℕ)) → raw.now ≡ bytes → {p : Part} → ((f : HeaderFront raw.now) → p ≡ pairs_part raw f.fields) → (p.refusal ≡ 255) × (p.bytes ≡ pairs)
+  pub pairs-part-back : (raw : Bor (List ℕ)) → raw.now ≡ bytes → {p : Told Part} → ((f : HeaderFront raw.now) → p ≡ pairs_part raw f.fields) → (p.refusal ≡ none) × (p.values.bytes ≡ pairs)
   unfolding pairs_part
   pairs-part-back raw e promise =
       let f = header-front (big_endian 4) Word 4 forward-front in
@@ -105,16 +106,16 @@ module _ (flags point : ℕ) (streams ssns rest : List ℕ) (s : Sendable flags 
 
 -- what meets the promise of `stream_at` has the stream and the SSN of that index
 pub pair-read-back : (streams ssns : List ℕ) → length streams ≡ length ssns → ((j : ℕ) → get_or streams j 0 < 2 ^ 16) → ((j : ℕ) → get_or ssns j 0 < 2 ^ 16) → (i : ℕ) → i < length streams
-    → (r : StreamAt) → ((f : PairFront (pairs_bytes streams ssns) i) → pair_told r ≡ pair_read (pairs_bytes streams ssns) i f.fields) → pair_told r ≡ says none (pair (get_or streams i 0) (get_or ssns i 0))
+    → (r : Result ChunkForwardTsnStream Refusal) → ((f : PairFront (pairs_bytes streams ssns) i) → pair_told r ≡ pair_read (pairs_bytes streams ssns) i f.fields) → pair_told r ≡ says none (pair (get_or streams i 0) (get_or ssns i 0))
 pair-read-back streams ssns same small less i h r promise =
     rw (lt-leb (length (pairs_bytes streams ssns) / 4) i (omega (arith, entries_length pair_entries streams ssns same))) at
     (promise (record { fields = pair (get_or streams i 0) (get_or ssns i 0); fits = record { stream = small i; ssn = less i }; begins = entry_begins pair_entries streams ssns i same h }))
 
 -- ── reading what was written gives the point and the number of pairs ──
 
-pub forward-written-read : (point : ℕ) (streams ssns rest : List ℕ) → Sendable 0 point streams ssns → (r : Unmarshalled)
+pub forward-written-read : (point : ℕ) (streams ssns rest : List ℕ) → Sendable 0 point streams ssns → (r : Result ChunkForwardTsn Refusal)
     → (let raw = forward_tsn_chunk 0 point streams ssns ++ rest in (f : ForwardFront raw) → forward_told r ≡ forward_read (length raw) f.fields)
-    → r ≡ Fields (record { new_cumulative_tsn = point; streams = length streams })
+    → r ≡ Ok (record { new_cumulative_tsn = point; streams = length streams })
 forward-written-read point streams ssns rest s r promise = forward-told-one (forward-read-back 0 point streams ssns rest s r promise)
 
 -- ── writing what was read gives the same chunk with flags 0 ──

@@ -8,7 +8,9 @@ use borrow.Author.Tests.{le-ltb, lt-leb, ltb-false}
 use lib.ListN.{length, get_or, take, drop}
 use lib.Seq.{take-add, take_all, take_at, drop_at, drop-drop}
 use denote.Ref.{Bor}
-use Rattle.wire_model.specs.Refusal.{none, says, first}
+use Rattle.std.specs.Prelude.{Result, Ok}
+use Rattle.wire_model.specs.Refusal.{none, says, first, Told}
+use Rattle.refusal.specs.declared.Refusal.{Refusal}
 use Rattle.wire.proofs.Reading.{first-passed, none_holds, none_both}
 use Rattle.wire.proofs.Exists.{Bytes}
 use Rattle.chunk.specs.Layout.{header, chunk}
@@ -16,10 +18,8 @@ use Rattle.chunk_selective_ack.specs.Layout.{Sack, sack, SackFits, sack_value, b
 use Rattle.chunk.specs.Header.{kind_checks, Headed, HeadedFits}
 use Rattle.chunk.specs.Part.{Part}
 use Rattle.chunk_selective_ack.specs.Sack.{sack_held, sack_told, SackFront, lists_only, sack_checks, sack_read, blocks_part, duplicates_part, entry_checks, BlockFront, block_told, block_read, TsnFront, tsn_told, tsn_read}
-use Rattle.sack_fields.specs.declared.Unmarshalled.{Unmarshalled}
-use Rattle.sack_fields.specs.declared.Unmarshalled.TheVariants.{Fields}
-use Rattle.sack_entries.specs.declared.GapAckBlockAt.{GapAckBlockAt}
-use Rattle.sack_entries.specs.declared.DuplicateTsnAt.{DuplicateTsnAt}
+use Rattle.sack_fields.specs.declared.ChunkSelectiveAck.{ChunkSelectiveAck}
+use Rattle.sack_entries.specs.declared.GapAckBlock.{GapAckBlock}
 use Rattle.chunk.proofs.Headers.{passes, headed_accepted, chunk_front, chunk-behind, chunk_passes, part-back}
 use Rattle.entries.proofs.Entries.{entries_length, entry_begins, any-pairs, any-words, entry_bytes}
 use Rattle.sack_marshal.proofs.SackBytes.{block_entries, tsn_entries, blocks-pairs, tsns-words, sack-value-length, lists_length}
@@ -90,7 +90,7 @@ module _ (flags cumulative window : ℕ) (starts ends duplicates more rest : Lis
       ∙ rw (le-ltb (16 + length lists) (16 + 4 * length starts + 4 * length duplicates) (omega (arith, size)))
 
   -- so what meets the promise of `unmarshal` has its fields
-  pub sack-read-back : (r : Unmarshalled) → ((f : SackFront bytes) → sack_told r ≡ sack_read (length bytes) f.fields) → sack_told r ≡ says none fields
+  pub sack-read-back : (r : Result ChunkSelectiveAck Refusal) → ((f : SackFront bytes) → sack_told r ≡ sack_read (length bytes) f.fields) → sack_told r ≡ says none fields
   unfolding sack_read
   sack-read-back r promise = rw sack_passes at (promise sack-front)
 
@@ -106,14 +106,14 @@ module _ (flags cumulative window : ℕ) (starts ends duplicates more rest : Lis
     front = record { fields = head; fits = fits; begins = rw e sack-front.begins }
 
     -- what meets the promise of `gap_ack_blocks` has its blocks
-    pub blocks-part-back : {p : Part} → ((f : SackFront raw.now) → p ≡ blocks_part raw f.fields) → (p.refusal ≡ 255) × (p.bytes ≡ gap_blocks starts ends)
+    pub blocks-part-back : {p : Told Part} → ((f : SackFront raw.now) → p ≡ blocks_part raw f.fields) → (p.refusal ≡ none) × (p.values.bytes ≡ gap_blocks starts ends)
     unfolding blocks_part
     blocks-part-back promise =
         let q = part-back (λ (lent : ℕ). sack_checks lent head) 16 (4 * length starts) raw e sack_passes (promise front) in
         (q.0, q.1 ∙ rw behind (take_at (gap_blocks starts ends) _ (4 * length starts) (entries_length block_entries starts ends s.same)))
 
     -- what meets the promise of `duplicate_tsns` has its duplicates
-    pub duplicates_part-back : {p : Part} → ((f : SackFront raw.now) → p ≡ duplicates_part raw f.fields) → (p.refusal ≡ 255) × (p.bytes ≡ duplicate_tsns duplicates)
+    pub duplicates_part-back : {p : Told Part} → ((f : SackFront raw.now) → p ≡ duplicates_part raw f.fields) → (p.refusal ≡ none) × (p.values.bytes ≡ duplicate_tsns duplicates)
     unfolding duplicates_part
     duplicates_part-back promise =
         let q = part-back (λ (lent : ℕ). sack_checks lent head) (16 + 4 * length starts) (4 * length duplicates) raw e sack_passes (promise front) in
@@ -127,14 +127,14 @@ entry_passes part i n l h = rw (lt-leb (length part / 4) i (omega arith))
 
 -- what meets the promise of `gap_ack_block_at` has the start and the end of that index
 pub block-read-back : (starts ends : List ℕ) → length starts ≡ length ends → ((j : ℕ) → get_or starts j 0 < 2 ^ 16) → ((j : ℕ) → get_or ends j 0 < 2 ^ 16) → (i : ℕ) → i < length starts
-    → (r : GapAckBlockAt) → ((f : BlockFront (gap_blocks starts ends) i) → block_told r ≡ block_read (gap_blocks starts ends) i f.fields) → block_told r ≡ says none (block (get_or starts i 0) (get_or ends i 0))
+    → (r : Result GapAckBlock Refusal) → ((f : BlockFront (gap_blocks starts ends) i) → block_told r ≡ block_read (gap_blocks starts ends) i f.fields) → block_told r ≡ says none (block (get_or starts i 0) (get_or ends i 0))
 block-read-back starts ends same small less i h r promise =
     rw (entry_passes (gap_blocks starts ends) i (length starts) (entries_length block_entries starts ends same) h) at
     (promise (record { fields = block (get_or starts i 0) (get_or ends i 0); fits = record { start = small i; end = less i }; begins = entry_begins block_entries starts ends i same h }))
 
 -- what meets the promise of `duplicate_tsn_at` has the duplicate of that index
 pub tsn-read-back : (tsns : List ℕ) → ((j : ℕ) → get_or tsns j 0 < 2 ^ 32) → (i : ℕ) → i < length tsns
-    → (r : DuplicateTsnAt) → ((f : TsnFront (duplicate_tsns tsns) i) → tsn_told r ≡ tsn_read (duplicate_tsns tsns) i f.fields) → tsn_told r ≡ says none (get_or tsns i 0)
+    → (r : Result ℕ Refusal) → ((f : TsnFront (duplicate_tsns tsns) i) → tsn_told r ≡ tsn_read (duplicate_tsns tsns) i f.fields) → tsn_told r ≡ says none (get_or tsns i 0)
 tsn-read-back tsns small i h r promise =
     rw (entry_passes (duplicate_tsns tsns) i (length tsns) (entries_length tsn_entries tsns tsns refl) h) at
     (promise (record { fields = get_or tsns i 0; fits = small i; begins = entry_begins tsn_entries tsns tsns i refl h }))
@@ -142,9 +142,9 @@ tsn-read-back tsns small i h r promise =
 -- ── reading what was written gives the fields ──
 
 -- read behind a write into any buffer, the fields and the counts of the lists come back
-pub sack-written-read : (cumulative window : ℕ) (starts ends duplicates rest : List ℕ) → Sendable 0 cumulative window starts ends duplicates [] → (r : Unmarshalled)
+pub sack-written-read : (cumulative window : ℕ) (starts ends duplicates rest : List ℕ) → Sendable 0 cumulative window starts ends duplicates [] → (r : Result ChunkSelectiveAck Refusal)
     → (let raw = sack_chunk 0 cumulative window starts ends duplicates [] ++ rest in (f : SackFront raw) → sack_told r ≡ sack_read (length raw) f.fields)
-    → r ≡ Fields (record { cumulative_tsn_ack = cumulative; advertised_receiver_window_credit = window; gap_ack_blocks = length starts; duplicate_tsns = length duplicates })
+    → r ≡ Ok (record { cumulative_tsn_ack = cumulative; advertised_receiver_window_credit = window; gap_ack_blocks = length starts; duplicate_tsns = length duplicates })
 unfolding sack_held
 sack-written-read cumulative window starts ends duplicates rest s r promise = sack-told-one (sack-read-back 0 cumulative window starts ends duplicates [] rest s r promise)
 

@@ -1,25 +1,14 @@
 -- The message in hand: a record with a position, beside the lent buffer that holds its bytes (document 01, 'Reassembly, one stream').
 -- Assumes nothing.
-use Rattle.std.specs.Prelude.{ℕ, ◌+◌, ◌-◌, min, Bool, true, false, not, ◌||◌, ◌&&◌, cond, List, ltb, eqb, length, take}
+use Rattle.std.specs.Prelude.{ℕ, ◌+◌, ◌-◌, min, Bool, true, false, not, ◌||◌, ◌&&◌, cond, List, ltb, eqb, length, take, Option, Some, None, Result}
 use Rattle.wire_model.specs.BigEndian.{over}
 use Rattle.wire_model.specs.Refusal.{none, refuse, Told, says, Written, written}
+use Rattle.refusal.specs.declared.Refusal.{Refusal}
+use Rattle.refusal.specs.Told.{answer_told}
 use Rattle.chunks.specs.declared.Chunks.{Chunks}
-use Rattle.chunks.specs.declared.Number.{Number}
-use Rattle.chunks.specs.declared.Number.TheVariants as numbers
-use Rattle.chunks.specs.declared.Flag.{Flag}
-use Rattle.chunks.specs.declared.Flag.TheVariants as flags
-use Rattle.chunks.specs.declared.Piece.{Piece}
-use Rattle.chunks.specs.declared.Piece.TheVariants as pieces
+use Rattle.chunks.specs.declared.Part.{Part}
 
 -- ── what answers say ──
-
-abbrev pub number_told : Number → Told ℕ
-number_told (numbers.Is n) = says none n
-number_told (numbers.Refused k) = says (refuse k) 0
-
-abbrev pub flag_told : Flag → Told Bool
-flag_told (flags.Is b) = says none b
-flag_told (flags.Refused k) = says (refuse k) false
 
 -- a piece, if one comes: its place in the buffer
 pub record Place : Type 0 where
@@ -33,10 +22,13 @@ place start size = record { comes = true; start = start; size = size }
 abbrev pub no_place : Place
 no_place = record { comes = false; start = 0; size = 0 }
 
-abbrev pub piece_told : Piece → Told Place
-piece_told (pieces.At p) = says none (place p.start p.size)
-piece_told pieces.Nothing = says none no_place
-piece_told (pieces.Refused k) = says (refuse k) no_place
+-- of a piece that may not come
+abbrev pub place_of : Option Part → Place
+place_of (Some p) = place p.start p.size
+place_of None = no_place
+
+abbrev pub piece_told : Result (Option Part) Refusal → Told Place
+piece_told = answer_told no_place place_of
 
 -- ── the calls ──
 

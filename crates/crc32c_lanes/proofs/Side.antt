@@ -9,7 +9,7 @@ use lib.Seq.{get_or-take, get_or-drop, length-take-le}
 use Rattle.crc32c_table.specs.Crc.{byte_step}
 use Rattle.crc32c_table.specs.Table.{Rule}
 use Rattle.crc32c_lanes.specs.Parts.{Quarters}
-use Rattle.crc32c_lanes.proofs.Walk.{Walked, walk_none, walk_turn, walk_end}
+use Rattle.crc32c_lanes.proofs.Walk.{Walked, walk_turn, walk_end}
 use Rattle.crc32c_lanes.proofs.Parts.{through-zeros}
 
 pub record Lanes (words : List ℕ) (register : ℕ) (bytes : List ℕ) (size a b c d far i : ℕ) : Type 0 where
@@ -20,9 +20,6 @@ pub record Lanes (words : List ℕ) (register : ℕ) (bytes : List ℕ) (size a 
   pub three : Walked 0 (take size (drop (2 * size) bytes)) c i
   pub four : Walked 0 (take size (drop (3 * size) bytes)) d i
   pub zeros : Walked (2 ^ 31) (replicate size 0) far i
-
-pub lanes_none : {words : List ℕ} {register : ℕ} {bytes : List ℕ} {size : ℕ} → Rule words → 4 * size ≤ length bytes → Lanes words register bytes size register 0 0 0 (2 ^ 31) 0
-lanes_none u h = record { rule = u; fits = h; one = walk_none _ _; two = walk_none _ _; three = walk_none _ _; four = walk_none _ _; zeros = walk_none _ _ }
 
 module _ {words : List ℕ} {register : ℕ} {bytes : List ℕ} {size a b c d far i : ℕ} (l : Lanes words register bytes size a b c d far i) where
   long : (p : ℕ) → p + size ≤ length bytes → length (take size (drop p bytes)) ≡ size

@@ -25,9 +25,6 @@ pub record Walked (register : ℕ) (bytes : List ℕ) (r i : ℕ) : Type 0 where
   pub within : i ≤ length bytes
   pub rest : through r (drop i bytes) ≡ through register bytes
 
-pub walk_none : (register : ℕ) (bytes : List ℕ) → Walked register bytes register 0
-walk_none register bytes = record { within = omega arith; rest = refl }
-
 through-cons : (r b : ℕ) (bytes : List ℕ) → through r (b ∷ bytes) ≡ through (byte_step r b) bytes
 unfolding through
 through-cons r b bytes = refl

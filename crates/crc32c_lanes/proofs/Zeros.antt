@@ -50,17 +50,6 @@ pub record Gathered (register far sum rest bit i : ℕ) : Type 0 where
   pub next : (k : ℕ) → far ≡ bit_steps k (2 ^ 31) → bit ≡ bit_steps (k + i) (2 ^ 31)
   pub is : (k : ℕ) → far ≡ bit_steps k (2 ^ 31) → bit_xor sum (bit_steps (k + i) rest) ≡ bit_steps k register
 
-pub gather_none : (register far : ℕ) → register < 2 ^ 32 → far < 2 ^ 32 → Gathered register far 0 register far 0
-gather_none register far h l =
-    record {
-      within = omega arith;
-      fits = h;
-      bit_fits = l;
-      moved = omega arith;
-      next = λ k e. let z : k + 0 ≡ k = omega arith in rw z e;
-      is = λ k e. let z : k + 0 ≡ k = omega arith in rw z;
-    }
-
 module _ {register far sum rest bit i : ℕ} (g : Gathered register far sum rest bit i) where
   pub gather_turn : {bit' : ℕ} → i < 32 → bit' ≡ bit_step bit → Gathered register far (bit_xor sum (rest / 2 ^ 31 * bit)) (rest * 2 % 2 ^ 32) bit' (i + 1)
   gather_turn {bit'} h b =
@@ -81,12 +70,3 @@ module _ {register far sum rest bit i : ℕ} (g : Gathered register far sum rest
       let all : i ≡ 32 = omega (arith, g.within) in
       let empty : rest ≡ 0 = g.moved ∙ rw all (mul-mod_left register (2 ^ 32)) in
       sym (xor_zero_r sum) ∙ ap (bit_xor sum) (sym (steps_nothing (k + i)) ∙ ap (bit_steps (k + i)) (sym empty)) ∙ g.is k e
-
--- a bit times a register is a register
-pub bit_times_fits : (rest bit : ℕ) → rest < 2 ^ 32 → bit < 2 ^ 32 → rest / 2 ^ 31 * bit < 2 ^ 32
-bit_times_fits rest bit h l = go (rest / 2 ^ 31) (omega arith)
-  where
-    go : (b : ℕ) → b < 2 → b * bit < 2 ^ 32
-    go zero m = omega arith
-    go (suc zero) m = omega arith
-    go (suc (suc b)) m = absurd (omega arith)

@@ -30,10 +30,8 @@ pub fn one(words: &[u32; 256], register: u32, bytes: &[u8]) -> u32
     ensures { result ≡ through register bytes.now }
 {
     let mut r = register;
-    let mut i: usize = 0;
-    while i < bytes.len() {
-        r = step(words, r, bytes[i]);
-        i += 1;
+    for &byte in bytes {
+        r = step(words, r, byte);
     }
     r
 }
@@ -58,14 +56,12 @@ pub fn four(words: &[u32; 256], register: u32, bytes: &[u8], part: usize) -> End
     let mut c: u32 = 0;
     let mut d: u32 = 0;
     let mut far: u32 = 0x8000_0000;
-    let mut i: usize = 0;
-    while i < part {
+    for i in 0..part {
         a = step(words, a, bytes[i]);
         b = step(words, b, bytes[part + i]);
         c = step(words, c, bytes[2 * part + i]);
         d = step(words, d, bytes[3 * part + i]);
         far = step(words, far, 0);
-        i += 1;
     }
     Ends {
         first: a,
@@ -90,12 +86,10 @@ pub fn after_zeros(register: u32, far: u32) -> u32
     let mut sum: u32 = 0;
     let mut rest = register;
     let mut bit = far;
-    let mut i: u32 = 0;
-    while i < 32 {
+    for _i in 0..u32::BITS {
         sum = sum ^ (rest >> 31) * bit;
         rest = rest << 1;
         bit = bit_out(bit);
-        i += 1;
     }
     sum
 }

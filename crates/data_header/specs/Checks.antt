@@ -2,7 +2,7 @@
 -- Assumes nothing.
 use Rattle.std.specs.Prelude.{ℕ, ◌-◌, List, [], ◌∷◌, ◌++◌, eqb, length}
 use Rattle.std.specs.Borrow.{Bor}
-use Rattle.wire_model.specs.Refusal.{Check, when, first}
+use Rattle.wire_model.specs.Refusal.{Check, when, first, Told}
 use Rattle.chunk.specs.Layout.{Header}
 use Rattle.chunk.specs.Header.{kind_checks}
 use Rattle.chunk.specs.Part.{Part, part_of}
@@ -16,5 +16,5 @@ abbrev pub data_checks : ℕ → Header → List Check
 data_checks lent h = kind_checks 0 16 4 lent h ++ data_only h
 
 -- "from byte 16 up to the length"
-unfoldable pub user_data : Bor (List ℕ) → Header → Part
+unfoldable pub user_data : Bor (List ℕ) → Header → Told Part
 user_data raw h = part_of (first (data_checks (length raw.now) h)) 16 (h.size - 16) raw

@@ -3,11 +3,11 @@
 
 ghost use Rattle.std.specs.Prelude.{◌≡◌, length};
 ghost use Rattle.wire_model.specs.Refusal.{written, write};
-ghost use Rattle.chunk.specs.Marshal.{marshal_told};
+ghost use Rattle.refusal.specs.Told.{count_told};
 ghost use Rattle.data_marshal.specs.Layout.{data_chunk};
 ghost use Rattle.data_marshal.specs.Checks.{sent, size_checks};
 
-use chunk::Marshalled;
+use refusal::Refusal;
 
 // The DATA chunk with this flags byte, these fields and this user data, written to the front of the lent buffer.
 pub fn marshal_to(
@@ -18,18 +18,18 @@ pub fn marshal_to(
     stream_sequence_number: u16,
     payload_type: u32,
     user: &[u8],
-) -> Marshalled
-    ensures { written (marshal_told result) out.new ≡ write (size_checks (length user.now)) (data_chunk flags (sent tsn stream_identifier stream_sequence_number payload_type) user.now) out.old }
+) -> Result<usize, Refusal>
+    ensures { written (count_told result) out.new ≡ write (size_checks (length user.now)) (data_chunk flags (sent tsn stream_identifier stream_sequence_number payload_type) user.now) out.old }
 {
     if user.len() == 0 {
-        return Marshalled::Refused(15);
+        return Err(Refusal::NoData);
     }
     if 65519 < user.len() {
-        return Marshalled::Refused(9);
+        return Err(Refusal::ChunkTooLarge);
     }
     let size = 16 + user.len();
     if out.len() < size {
-        return Marshalled::Refused(10);
+        return Err(Refusal::ShortOutput);
     }
     fields::put_front_4224(
         out,
@@ -42,5 +42,5 @@ pub fn marshal_to(
         payload_type,
     );
     wire_put::put_bytes(&mut out[16..], user);
-    Marshalled::Bytes(size)
+    Ok(size)
 }

@@ -20,10 +20,7 @@ pub fn put_pairs(out: &mut [u8], firsts: &[u16], seconds: &[u16])
     requires firsts_in_bounds { 4 * length firsts.now ≤ length out.old }
     ensures { out.new ≡ over out.old (pairs firsts.now seconds.now) }
 {
-    let mut i: usize = 0;
-    while i < firsts.len() {
-        let at = 4 * i;
-        put_pair(&mut out[at..], firsts[i], seconds[i]);
-        i += 1;
+    for i in 0..firsts.len() {
+        put_pair(&mut out[4 * i..], firsts[i], seconds[i]);
     }
 }

@@ -165,11 +165,11 @@ module _ {told : ℕ} {raw : List ℕ} {from depth before : ℕ} {l₀ : List �
               f ∙ rw (m, with_here, noted_more told before (w.done ++ (here ∷ [])) inner.causes l₀)
 
           -- a fault inside ends the reading
-          pub held_bad : {k : ℕ} → inner.fault ≡ refuse k
+          pub held_bad : {k : ℕ} → says (refuse k) 0 ≡ counted (n + 1) inner
               → Ended told raw from depth before l₀ (says (refuse k) 0) l''
           held_bad {k} g =
               ends-refused told before l₀ {cs = more} with_inner
-              (w.is ∙ ap (onward w.done) (held-is six ∙ rw g) ∙ assoc (here ∷ []) (reading inner.causes (refuse k)))
+              (w.is ∙ ap (onward w.done) (held-is six ∙ rw (counted-refused (n + 1) inner g)) ∙ assoc (here ∷ []) (reading inner.causes (refuse k)))
 
           -- a cause and the causes that it holds
           pub held_all : inner.fault ≡ none → {m p : ℕ} → m ≡ n + 1 + length inner.causes → m ≤ at + x.size → p ≡ rounded x.size

@@ -5,19 +5,13 @@
 ghost use Rattle.std.specs.Prelude.{◌≡◌, length, drop};
 ghost use Rattle.cause_parts.specs.Causes.{causes, chunk_held};
 ghost use Rattle.cause_parts.specs.Lists.{noted};
-ghost use Rattle.error_causes.specs.Counts.{count_told, counted, CountRoom, Placed};
+ghost use Rattle.refusal.specs.Told.{count_told};
+ghost use Rattle.error_causes.specs.Counts.{counted, CountRoom, Placed};
 
-use cause_parts::{Front, Held};
+use refusal::Refusal;
 
 // Unrecognized Chunk Type, the one cause that may hold a chunk.
 const UNRECOGNIZED_CHUNK_TYPE: u16 = 6;
-
-// How many causes are read, or what refuses the first fault.
-#[derive(Clone, Copy)]
-pub enum Counted {
-    Causes(usize),
-    Refused(u8),
-}
 
 // The chunk in a cause's value, which goes from a place to the end of the lent bytes: of ERROR and ABORT its causes, one deeper; of other kinds the header alone.
 #[cycle(read_causes_read_chunk)]
@@ -28,21 +22,19 @@ fn read_chunk(
     count: usize,
     told: u8,
     list: &mut [u16],
-) -> Counted
+) -> Result<usize, Refusal>
     requires { Placed (length raw.now) at depth count }
     ensures result_value { count_told result ≡ counted count (chunk_held depth at (drop at raw.now)) }
     ensures list_after { list.new ≡ noted told count (chunk_held depth at (drop at raw.now)).causes list.old }
     ensures count_room { CountRoom (length raw.now) result }
 {
-    let held = cause_parts::chunk_at(raw, at);
-    match held {
-        Held::Refused(k) => Counted::Refused(k),
-        Held::Nothing => Counted::Causes(count),
-        Held::Causes(end) => read_causes(&raw[..end], at + 4, depth + 1, count, told, list),
+    match cause_parts::chunk_at(raw, at)? {
+        None => Ok(count),
+        Some(end) => read_causes(&raw[..end], at + 4, depth + 1, count, told, list),
     }
 }
 
-// The causes from a place to the end of the lent bytes, each followed by what it holds; `count` are read already. One thing is told of each, in a list as far as it goes:
+// The causes from a place to the end of the lent bytes, each followed by what it holds; `count` are read already, and it answers how many there are then. One thing is told of each, in a list as far as it goes:
 // a list for each thing would make every call's frame twice as large, and a nesting is as deep as its chunk lets it be.
 #[cycle(read_causes_read_chunk)]
 pub fn read_causes(
@@ -52,7 +44,7 @@ pub fn read_causes(
     count: usize,
     told: u8,
     list: &mut [u16],
-) -> Counted
+) -> Result<usize, Refusal>
     requires { Placed (length raw.now) from depth count }
     ensures result_value { count_told result ≡ counted count (causes depth from (drop from raw.now)) }
     ensures list_after { list.new ≡ noted told count (causes depth from (drop from raw.now)).causes list.old }
@@ -61,32 +53,17 @@ pub fn read_causes(
     let mut at = from;
     let mut n = count;
     while at < raw.len() {
-        let front = cause_parts::cause_at(raw, at);
-        match front {
-            Front::Refused(k) => {
-                return Counted::Refused(k);
-            }
-            Front::Cause(h) => {
-                let code = h.code;
-                let size = h.size;
-                let start = at + 4;
-                let end = at + size as usize;
-                cause_notes::note(told, n, at, depth, h, list);
-                n += 1;
-                at += packet_parts::padded_size(size);
-                if code == UNRECOGNIZED_CHUNK_TYPE {
-                    let held = read_chunk(&raw[..end], start, depth, n, told, list);
-                    match held {
-                        Counted::Refused(k) => {
-                            return Counted::Refused(k);
-                        }
-                        Counted::Causes(m) => {
-                            n = m;
-                        }
-                    }
-                }
-            }
+        let front = cause_parts::cause_at(raw, at)?;
+        let code = front.code;
+        let size = front.size;
+        let start = at + 4;
+        let end = at + size as usize;
+        cause_notes::note(told, n, at, depth, front, list);
+        n += 1;
+        at += packet_parts::padded_size(size);
+        if code == UNRECOGNIZED_CHUNK_TYPE {
+            n = read_chunk(&raw[..end], start, depth, n, told, list)?;
         }
     }
-    Counted::Causes(n)
+    Ok(n)
 }

@@ -70,11 +70,8 @@ fn put_words(out: &mut [u8], numbers: &[u32])
     requires { 4 * length numbers.now ≤ length out.old }
     ensures { out.new ≡ over out.old (words numbers.now) }
 {
-    let mut i: usize = 0;
-    while i < numbers.len() {
-        let at = 4 * i;
-        wire_put::put_u32(&mut out[at..], numbers[i]);
-        i += 1;
+    for (i, &number) in numbers.iter().enumerate() {
+        wire_put::put_u32(&mut out[4 * i..], number);
     }
 }
 

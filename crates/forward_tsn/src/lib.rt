@@ -10,34 +10,24 @@ ghost use Rattle.forward_tsn.specs.Applied.{Pairs, applied_to_stream};
 
 pub use forward_tsn_drops::apply_to_tsns;
 use forward_tsn_skips::skip_pairs;
-use reassembly_queue::{Forwarded, ReassemblyQueue};
+use reassembly_queue::ReassemblyQueue;
+use refusal::Refusal;
 
 // The ordered skip for each pair that names the stream, then one unordered skip.
 pub fn apply_to_stream(
-    queue: ReassemblyQueue,
+    queue: &mut ReassemblyQueue,
     table: &mut [u32; reassembly_queue::WORDS],
     pool: &mut [u8],
     cumulative_tsn: u32,
     new_cumulative_tsn: u32,
     streams: &[u8],
-) -> Forwarded
-    ensures { (f : Pairs streams.now) → stream.after (done.done_told result.answer) (state_of result.queue table.new pool.new) ≡ applied_to_stream (state_of queue table.old pool.old) cumulative_tsn new_cumulative_tsn f.streams f.ssns }
+) -> Result<(), Refusal>
+    ensures { (f : Pairs streams.now) → stream.after (done.done_told result) (state_of queue.new table.new pool.new) ≡ applied_to_stream (state_of queue.old table.old pool.old) cumulative_tsn new_cumulative_tsn f.streams f.ssns }
 {
-    let held = queue.get_num_bytes(table, pool);
-    match held {
-        chunks::Number::Refused(k) => Forwarded {
-            answer: reassembly_queue::Done::Refused(k),
-            queue,
-        },
-        chunks::Number::Is(n) => {
-            if serial_tsns::sna32lte(new_cumulative_tsn, cumulative_tsn) {
-                return Forwarded {
-                    answer: reassembly_queue::Done::All,
-                    queue,
-                };
-            }
-            let left = skip_pairs(queue, table, pool, streams);
-            left.forward_tsn_for_unordered(table, pool, new_cumulative_tsn)
-        }
+    queue.get_num_bytes(table, pool)?;
+    if serial_tsns::sna32lte(new_cumulative_tsn, cumulative_tsn) {
+        return Ok(());
     }
+    skip_pairs(queue, table, pool, streams);
+    queue.forward_tsn_for_unordered(table, pool, new_cumulative_tsn)
 }

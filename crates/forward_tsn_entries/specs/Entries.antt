@@ -1,11 +1,12 @@
 -- A lookup by index over whole 4-byte entries.
 -- Assumes nothing.
-use Rattle.std.specs.Prelude.{ℕ, ◌/◌, ◌<◌, ◌*◌, ◌^◌, List, [], ◌∷◌, leb, length, drop}
-use Rattle.wire_model.specs.Refusal.{none, refuse, Check, when, first, Told, says, answer}
+use Rattle.std.specs.Prelude.{ℕ, ◌/◌, ◌<◌, ◌*◌, ◌^◌, List, [], ◌∷◌, leb, length, drop, Result}
+use Rattle.wire_model.specs.Refusal.{Check, when, first, Told, answer}
+use Rattle.refusal.specs.declared.Refusal.{Refusal}
+use Rattle.refusal.specs.Told.{answer_told}
 use Rattle.wire.specs.Front.{Front}
 use Rattle.forward_tsn_entries.specs.Layout.{Pair, pair, pair_bytes}
-use Rattle.forward_tsn_entries.specs.declared.StreamAt.{StreamAt}
-use Rattle.forward_tsn_entries.specs.declared.StreamAt.TheVariants as streams
+use Rattle.forward_tsn_entries.specs.declared.ChunkForwardTsnStream.{ChunkForwardTsnStream}
 
 -- 11: "list index at or past its count"
 abbrev pub entry_checks : List ℕ → ℕ → List Check
@@ -19,9 +20,8 @@ pub record PairFits (p : Pair) : Type 0 where
 abbrev pub PairFront : List ℕ → ℕ → Type 0
 PairFront part i = Front pair_bytes PairFits 4 (drop (4 * i) part)
 
-abbrev pub pair_told : StreamAt → Told Pair
-pair_told (streams.Stream s) = says none (pair s.identifier s.sequence)
-pair_told (streams.Refused k) = says (refuse k) (pair 0 0)
+abbrev pub pair_told : Result ChunkForwardTsnStream Refusal → Told Pair
+pair_told = answer_told (pair 0 0) (λ (s : ChunkForwardTsnStream). pair s.identifier s.sequence)
 
 abbrev pub pair_read : List ℕ → ℕ → Pair → Told Pair
 pair_read part i p = answer (pair 0 0) (first (entry_checks part i)) p

@@ -8,14 +8,11 @@ use native.Mathlib.Omega.{arith}
 use borrow.Author.Tests.{lt-leb}
 use lib.ListN.{length, get_or, take, drop, length-drop, take-append-drop, drop_of_length-le}
 use lib.Seq.{take_all, take-append-le, drop-append-le, drop-cons, length-take-le}
-use Rattle.wire_model.specs.Refusal.{none, first}
+use Rattle.wire_model.specs.Refusal.{none, refuse, first, says}
 use Rattle.wire.proofs.Reading.{refused, accepted}
 use Rattle.entries.proofs.Entries.{entry_begins}
 use Rattle.chunk_forward_tsn.specs.Layout.{Pair, pair, pair_bytes}
-use Rattle.chunk_forward_tsn.specs.ForwardTsn.{entry_checks, PairFront, pair_told, pair_read}
-use Rattle.forward_tsn_entries.specs.declared.ChunkForwardTsnStream.{ChunkForwardTsnStream}
-use Rattle.forward_tsn_entries.specs.declared.StreamAt.{StreamAt}
-use Rattle.forward_tsn_entries.specs.declared.StreamAt.TheVariants as streams
+use Rattle.chunk_forward_tsn.specs.ForwardTsn.{entry_checks, PairFront, pair_read}
 use Rattle.forward_tsn_marshal.proofs.ForwardBytes.{pair-length, pair_entries}
 use Rattle.reassembly_state.specs.State.{State}
 use Rattle.forward_tsn_skips.specs.Skips.{Pairs, pair_skipped, pairs_skipped}
@@ -59,12 +56,12 @@ skip_done part f i h s = rw (drop_of_length-le f.streams {i = i} (omega (arith, 
 
 -- ── what a lookup says below the count ──
 
-module _ (part : List ℕ) (i : ℕ) (p : Pair) (h : i < length part / 4) (r : StreamAt) (t : pair_told r ≡ pair_read part i p) where
+module _ (part : List ℕ) (i : ℕ) (p : Pair) (h : i < length part / 4) where
   passes : first (entry_checks part i) ≡ none
   passes = rw (lt-leb (length part / 4) i h)
 
-  pub at-refused : {k : ℕ} → r ≡ streams.Refused k → ⊥
-  at-refused e = let f = sym passes ∙ refused (pair 0 0) p (first (entry_checks part i)) (rw e at t) in let n : ◌≡◌ {A = ℕ} 0 1 = cc in absurd (omega arith)
+  pub at-refused : {k : ℕ} → says (refuse k) (pair 0 0) ≡ pair_read part i p → ⊥
+  at-refused t = let f = sym passes ∙ refused (pair 0 0) p (first (entry_checks part i)) t in let n : ◌≡◌ {A = ℕ} 0 1 = cc in absurd (omega arith)
 
-  pub at-is : {s : ChunkForwardTsnStream} → r ≡ streams.Stream s → pair s.identifier s.sequence ≡ p
-  at-is e = (accepted (pair 0 0) p (first (entry_checks part i)) (rw e at t)).1
+  pub at-is : {q : Pair} → says none q ≡ pair_read part i p → q ≡ p
+  at-is t = (accepted (pair 0 0) p (first (entry_checks part i)) t).1

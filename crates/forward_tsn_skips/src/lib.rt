@@ -7,59 +7,50 @@ ghost use Rattle.chunk_forward_tsn.specs.ForwardTsn.{PairFront};
 ghost use Rattle.reassembly_queue.specs.Queue.{state_of};
 ghost use Rattle.forward_tsn_skips.specs.Skips.{Pairs, pair_skipped, pairs_skipped};
 
-use chunk_forward_tsn::StreamAt;
 use reassembly_queue::ReassemblyQueue;
 
-// The ordered skip of one pair, if it names this stream.
+// The ordered skip of one pair, if it names this stream. What a skip refuses changes nothing, and is not told.
 fn skip_pair(
-    queue: ReassemblyQueue,
+    queue: &mut ReassemblyQueue,
     table: &mut [u32; reassembly_queue::WORDS],
     pool: &mut [u8],
     identifier: u16,
     sequence: u16,
-) -> ReassemblyQueue
-    ensures { state_of result table.new pool.new ≡ pair_skipped (state_of queue table.old pool.old) (pair identifier sequence) }
+)
+    ensures { state_of queue.new table.new pool.new ≡ pair_skipped (state_of queue.old table.old pool.old) (pair identifier sequence) }
 {
-    if identifier != queue.si {
-        return queue;
+    if identifier == queue.counts.si {
+        let _ = queue.forward_tsn_for_ordered(table, pool, sequence);
     }
-    let left = queue.forward_tsn_for_ordered(table, pool, sequence);
-    left.queue
 }
 
 // The same for the pair at an index of a part.
 fn skip_at(
-    queue: ReassemblyQueue,
+    queue: &mut ReassemblyQueue,
     table: &mut [u32; reassembly_queue::WORDS],
     pool: &mut [u8],
     part: &[u8],
     i: usize,
-) -> ReassemblyQueue
+)
     requires { i < length part.now / 4 }
-    ensures { (f : PairFront part.now i) → state_of result table.new pool.new ≡ pair_skipped (state_of queue table.old pool.old) f.fields }
+    ensures { (f : PairFront part.now i) → state_of queue.new table.new pool.new ≡ pair_skipped (state_of queue.old table.old pool.old) f.fields }
 {
-    let any = chunk_forward_tsn::stream_at(part, i);
-    match any {
-        StreamAt::Refused(k) => queue,
-        StreamAt::Stream(s) => skip_pair(queue, table, pool, s.identifier, s.sequence),
+    match chunk_forward_tsn::stream_at(part, i) {
+        Ok(s) => skip_pair(queue, table, pool, s.identifier, s.sequence),
+        Err(_) => {}
     }
 }
 
 // The same for all pairs of a part, in its order.
 pub fn skip_pairs(
-    queue: ReassemblyQueue,
+    queue: &mut ReassemblyQueue,
     table: &mut [u32; reassembly_queue::WORDS],
     pool: &mut [u8],
     part: &[u8],
-) -> ReassemblyQueue
-    ensures { (f : Pairs part.now) → state_of result table.new pool.new ≡ pairs_skipped (state_of queue table.old pool.old) f.streams f.ssns }
+)
+    ensures { (f : Pairs part.now) → state_of queue.new table.new pool.new ≡ pairs_skipped (state_of queue.old table.old pool.old) f.streams f.ssns }
 {
-    let n = part.len() / 4;
-    let mut left = queue;
-    let mut i: usize = 0;
-    while i < n {
-        left = skip_at(left, table, pool, part, i);
-        i += 1;
+    for i in 0..part.len() / 4 {
+        skip_at(queue, table, pool, part, i);
     }
-    left
 }

@@ -33,7 +33,7 @@ pub fn close_fragments(
     if at + k == n {
         return;
     }
-    moves::close_bytes(pool, held, off, bytes);
+    moves::close(pool, held, off, bytes);
     table_moves::close_rows(table, size, n, at, k);
 }
 

@@ -46,6 +46,6 @@ pub fn put_fragment(
     ensures pool_after { pool.new ≡ lay_bytes (put at (frag_of row bytes.now ∷ []) (cut (take n (rows_of size table.old)) pool.old)) pool.old }
 {
     let off = start_of(table, size, n, held, at);
-    moves::put_bytes(pool, held, off, bytes);
+    moves::put(pool, held, off, bytes);
     table_put::put_row(table, size, n, at, row);
 }

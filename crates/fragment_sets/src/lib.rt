@@ -16,15 +16,8 @@ pub fn find_ssn(table: &[u32], size: usize, from: usize, n: usize, ssn: u16) -> 
     ensures { result ≡ ahead_of (of_row (has_ssn ssn)) (take n (drop from (rows_of size table.now))) }
 {
     let wanted = ssn as u32;
-    let ids = 2 * size + from;
-    let mut i: usize = 0;
-    while i < n {
-        if table[ids + i] % 65536 == wanted {
-            return i;
-        }
-        i += 1;
-    }
-    i
+    let ids = table_columns::ids(table, size, from, n);
+    ids.iter().position(|id| *id % 65536 == wanted).unwrap_or(n)
 }
 
 // Whether one of the n rows from one on has another SSN: a pass over all of them.
@@ -34,12 +27,9 @@ fn has_other(table: &[u32], size: usize, from: usize, n: usize, ssn: u16) -> boo
     ensures { result ≡ some (of_row (other_ssn ssn)) (take n (drop from (rows_of size table.now))) }
 {
     let wanted = ssn as u32;
-    let ids = 2 * size + from;
     let mut found = false;
-    let mut i: usize = 0;
-    while i < n {
-        found = found | (table[ids + i] % 65536 != wanted);
-        i += 1;
+    for id in table_columns::ids(table, size, from, n) {
+        found = found | (*id % 65536 != wanted);
     }
     found
 }
@@ -51,15 +41,8 @@ pub fn run_ssn(table: &[u32], size: usize, from: usize, n: usize, ssn: u16) -> u
     ensures { result ≡ ahead_of (of_row (other_ssn ssn)) (take n (drop from (rows_of size table.now))) }
 {
     let wanted = ssn as u32;
-    let ids = 2 * size + from;
-    let mut i: usize = 0;
-    while i < n {
-        if table[ids + i] % 65536 != wanted {
-            return i;
-        }
-        i += 1;
-    }
-    i
+    let ids = table_columns::ids(table, size, from, n);
+    ids.iter().position(|id| *id % 65536 != wanted).unwrap_or(n)
 }
 
 // The same as run_ssn, for many rows: BLOCK of them in one pass, until one has another. Larger code than run_ssn's, and so slower for few rows.
@@ -68,13 +51,14 @@ pub fn pass_ssn(table: &[u32], size: usize, from: usize, n: usize, ssn: u16) -> 
     requires n_bound { from + n ≤ size }
     ensures { result ≡ ahead_of (of_row (other_ssn ssn)) (take n (drop from (rows_of size table.now))) }
 {
-    let mut i: usize = 0;
-    while BLOCK <= n - i {
+    let blocks = n / BLOCK;
+    for block in 0..blocks {
+        let i = block * BLOCK;
         if has_other(table, size, from + i, BLOCK, ssn) {
             return i + run_ssn(table, size, from + i, n - i, ssn);
         }
-        i += BLOCK;
     }
+    let i = blocks * BLOCK;
     i + run_ssn(table, size, from + i, n - i, ssn)
 }
 
@@ -85,14 +69,11 @@ pub fn place_ssn(table: &[u32], size: usize, from: usize, n: usize, ssn: u16) ->
     ensures { result ≡ up_to_last (of_row (ssn_before ssn)) (take n (drop from (rows_of size table.now))) }
 {
     let ids = 2 * size + from;
-    let mut place = n;
-    while 0 < place {
-        let at = place - 1;
+    for at in (0..n).rev() {
         let held = (table[ids + at] % 65536) as u16;
         if serial_ssns::sna16lt(held, ssn) {
-            return place;
+            return at + 1;
         }
-        place = at;
     }
     0
 }
@@ -103,14 +84,11 @@ pub fn find_end(table: &[u32], size: usize, from: usize, n: usize) -> usize
     requires n_bound { from + n ≤ size }
     ensures { result ≡ ahead_of (of_row ends) (take n (drop from (rows_of size table.now))) }
 {
-    let mut i: usize = 0;
-    while i < n {
-        if table[from + i] / 16777216 % 2 == 1 {
-            return i;
-        }
-        i += 1;
-    }
-    i
+    let heads = table_columns::heads(table, size, from, n);
+    heads
+        .iter()
+        .position(|head| *head / 16777216 % 2 == 1)
+        .unwrap_or(n)
 }
 
 // Whether the rows are a whole message: the first is B, the last is E, and TSNs rise by 1.
@@ -130,11 +108,10 @@ pub fn is_complete(table: &[u32], size: usize, from: usize, n: usize) -> bool
         return false;
     }
     let tsns = size + from;
-    let mut i: usize = 0;
-    while i < end {
+    for i in 0..end {
         let next = serial_steps::tsn_next(table[tsns + i]);
-        i += 1;
-        if table[tsns + i] != next {
+        let behind = i + 1;
+        if table[tsns + behind] != next {
             return false;
         }
     }

@@ -42,6 +42,12 @@ total_up a b rs h =
     let e : a + (b - a) ≡ b = omega arith in
     omega (arith, rw e at (total_within a (b - a) rs))
 
+-- no more than 24 bits each
+pub total_small : (rs : List Row) → B rs ≤ 16777216 * length rs
+unfolding total
+total_small [] = omega arith
+total_small (r ∷ rs) = omega (arith, total_small rs)
+
 -- ── what is cut ──
 
 pub cut-cons : (r : Row) (rs : List Row) (pool : List ℕ) → cut (r ∷ rs) pool ≡ frag_of r (take (long_length r.head) pool) ∷ cut rs (drop (long_length r.head) pool)

@@ -23,13 +23,8 @@ pub fn sum_long(table: &[u32], size: usize, from: usize, n: usize) -> usize
     requires n_bound { from + n ≤ size }
     ensures { result ≡ total long_length (take n (drop from (rows_of size table.now))) }
 {
-    let mut sum: usize = 0;
-    let mut i: usize = 0;
-    while i < n {
-        sum += long_length(table[from + i]);
-        i += 1;
-    }
-    sum
+    let heads = table_columns::heads(table, size, from, n);
+    heads.iter().map(|head| long_length(*head)).sum()
 }
 
 // The fragments from index b up to e moved in front of those from a up to b.
@@ -58,7 +53,7 @@ pub fn move_fragments(
     let first = sum_long(table, size, 0, a);
     let middle = first + sum_long(table, size, a, b - a);
     let end = middle + sum_long(table, size, b, e - b);
-    moves::turn_bytes(pool, first, middle, end);
+    moves::turn(pool, first, middle, end);
     table_moves::turn_rows(table, size, a, b, e);
 }
 
@@ -84,5 +79,5 @@ pub fn move_down(
     ensures pool_after { pool.new ≡ over pool.old (gone place (off - place) (take end pool.old)) }
 {
     table_moves::close_rows(table, size, at + k, to, at - to);
-    moves::close_bytes(pool, end, place, off - place);
+    moves::close(pool, end, place, off - place);
 }

@@ -20,20 +20,13 @@ pub fn count_blocks(table: &[u32], size: usize, n: usize, cumulative: u32) -> us
     let mut needed: usize = 0;
     // The offset that extends the last block; 0 where there is none, since no counted offset is 0.
     let mut want: u32 = 0;
-    let mut i: usize = 0;
-    while i < n {
+    for i in 0..n {
         let offset = serial_steps::tsn_offset(cumulative, table[size + i]);
-        i += 1;
-        if 0 < offset {
-            if offset <= FARTHEST {
-                let next = offset + 1;
-                if offset == want {
-                    want = next;
-                } else {
-                    needed += 1;
-                    want = next;
-                }
+        if 0 < offset && offset <= FARTHEST {
+            if offset != want {
+                needed += 1;
             }
+            want = offset + 1;
         }
     }
     needed
@@ -59,6 +52,7 @@ pub fn write_blocks(
     let mut count: usize = 0;
     // The offset that extends the last block, as in count_blocks.
     let mut want: u32 = 0;
+    // No `for`: `i += more` leaves out the TSNs that `following` has counted.
     let mut i: usize = 0;
     while i < n {
         let tsn = table[size + i];

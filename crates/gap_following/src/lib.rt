@@ -1,20 +1,10 @@
 // The TSNs that follow one another from a row on, counted.
 #![tactic(auto)]
 
-ghost use Rattle.std.specs.Prelude.{◌≡◌, cond, ◌*◌, ◌≤◌, ltb, length, take, drop};
+ghost use Rattle.std.specs.Prelude.{◌≡◌, ◌*◌, ◌≤◌, length, take, drop};
 ghost use Rattle.table.specs.Rows.{rows_of};
 ghost use Rattle.gap_model.specs.Adjacent.{adjacent};
 ghost use Rattle.gap_model.specs.Gap.{tsns_of};
-
-// The smaller of two numbers.
-fn least(a: usize, b: usize) -> usize
-    ensures { result ≡ cond (ltb a b) a b }
-{
-    if a < b {
-        return a;
-    }
-    b
-}
 
 // How many of the TSNs from row `from` up to n follow one another, the first of them the given one; at most `room`. A simple pass, since most arrive in order.
 pub fn following(table: &[u32], size: usize, from: usize, n: usize, room: usize, tsn: u32) -> usize
@@ -24,15 +14,13 @@ pub fn following(table: &[u32], size: usize, from: usize, n: usize, room: usize,
     ensures { result ≡ adjacent room tsn (drop from (tsns_of (take n (rows_of size table.now)))) }
 {
     let tsns = size + from;
-    let most = least(n - from, room);
+    let most = room.min(n - from);
     let mut want = tsn;
-    let mut i: usize = 0;
-    while i < most {
+    for i in 0..most {
         if table[tsns + i] != want {
             return i;
         }
-        i += 1;
         want = serial_steps::tsn_next(want);
     }
-    i
+    most
 }

@@ -5,11 +5,14 @@ use mathlib.Core.Bool.{Bool, true, false, cond}
 use mathlib.Core.List.{List, [], ◌∷◌, ◌++◌, map-append}
 use Prim.Native.Nat.{ℕ, zero, suc, ◌+◌, ◌*◌, ◌-◌, ◌^◌, ◌<◌, ◌≤◌}
 use native.Mathlib.Nat.{mod-add-mod, mod-eq_of_lt, add-zero, sub-zero}
+use native.Mathlib.Decide.{dec_le}
 use native.Mathlib.Omega.{arith}
-use lib.Dec.{eqb, ltb}
+use Rattle.std.specs.Prelude.{min}
+use Rattle.std.proofs.Math.Nat.{min-eq_left, min-eq_right}
+use lib.Dec.{eqb}
 use lib.ListN.{length, get_or, drop, set, length-append, length-drop, length-map, drop_of_length-le}
 use lib.Seq.{drop-cons, drop-drop, set-set}
-use borrow.Author.Tests.{eqb-true, eq-eqb, ne_eqb, ltb-true, ltb-false}
+use borrow.Author.Tests.{eqb-true, eq-eqb, ne_eqb}
 use Rattle.serial_model.specs.Serial.{ahead, next}
 use Rattle.gap_model.specs.Gap.{Block, block, walk, ends_of}
 use Rattle.gap_model.specs.Adjacent.{adjacent}
@@ -50,14 +53,6 @@ adjacent-full t ts = refl
 
 -- ── the pass ──
 
--- the smaller of two numbers is above neither
-pub least_within : (a b : ℕ) → (cond (ltb a b) a b ≤ a) × (cond (ltb a b) a b ≤ b)
-least_within a b = go (ltb a b) refl
-  where
-    go : (t : Bool) → ltb a b ≡ t → (cond t a b ≤ a) × (cond t a b ≤ b)
-    go true e = let h = ltb-true a b e in (omega arith, omega arith)
-    go false e = let h = ltb-false a b e in (omega arith, omega arith)
-
 pub record Followed (size n : ℕ) (table : List ℕ) (from room tsn i want : ℕ) : Type 0 where
   pub sized : length table ≡ 4 * size
   pub fit : n ≤ size
@@ -91,14 +86,18 @@ module _ {size n : ℕ} {table : List ℕ} {from room tsn i want : ℕ} (f : Fol
       let e = rw (eq-eqb (get_or table (size + from + i) 0) want r) at (next-is h k) in
       record { sized = f.sized; fit = f.fit; start = f.start; within = omega arith; few = omega arith; is = omega arith }
 
-  pub followed_all : (most : ℕ) → most ≡ cond (ltb (n - from) room) (n - from) room → most ≤ i → i ≡ adjacent room tsn (drop from ts)
-  followed_all most e h = go (ltb (n - from) room) e
+  pub followed_all : (most : ℕ) → most ≡ min room (n - from) → i ≡ most → most ≡ adjacent room tsn (drop from ts)
+  followed_all most e h = go (dec_le room (n - from))
     where
-      go : (b : Bool) → most ≡ cond b (n - from) room → i ≡ adjacent room tsn (drop from ts)
-      go true e =
+      go : Dec (room ≤ n - from) → most ≡ adjacent room tsn (drop from ts)
+      go (yes k) =
+          let m : most ≡ room = e ∙ min-eq_left k in
+          let z : room - i ≡ 0 = omega arith in
+          omega (arith, rw (z, adjacent-full) at f.is)
+      go (no k) =
+          let m : most ≡ n - from = e ∙ min-eq_right (omega arith) in
           let l : length ts ≤ from + i = rw (held-long size n table f.sized f.fit) (omega (arith, f.start)) in
           omega (arith, rw (drop_of_length-le ts {i = from + i} l, adjacent_none) at f.is)
-      go false e = let z : room - i ≡ 0 = omega arith in omega (arith, rw (z, adjacent-full) at f.is)
 
 -- no more than there is room and rows for
 pub follow_few :

@@ -18,7 +18,8 @@ use Rattle.table.specs.declared.Row.{Row}
 use Rattle.table.proofs.Columns.{rows_long}
 use Rattle.table.proofs.Scans.{tsn-at}
 use Rattle.gap_model.specs.Gap.{Block, block, counts, extend, taken, walk, blocks, tsns_of, starts_of, ends_of, report, written}
-use Rattle.gap_model.specs.declared.Reported.TheVariants.{Count, Short}
+use Rattle.std.specs.Prelude.{Ok, Err}
+use Rattle.refusal.specs.declared.Refusal.TheVariants.{ShortOutput}
 
 -- ── which offsets count ──
 
@@ -273,16 +274,16 @@ module _ {cum size n : ℕ} {table ss₀ es₀ ss es : List ℕ} {count want i :
 -- ── the answers ──
 
 module _ (bs : List Block) (ss es : List ℕ) where
-  pub said_short : length ss < length bs → report Short ss es ≡ written bs ss es
+  pub said_short : length ss < length bs → report (Err ShortOutput) ss es ≡ written bs ss es
   unfolding written
   said_short h = rw (lt-leb (length bs) (length ss) h)
 
-  pub said_short' : length bs ≤ length ss → length es < length bs → report Short ss es ≡ written bs ss es
+  pub said_short' : length bs ≤ length ss → length es < length bs → report (Err ShortOutput) ss es ≡ written bs ss es
   unfolding written
   said_short' k h = rw (le-leb (length bs) (length ss) k, lt-leb (length bs) (length es) h)
 
   pub said :
       length bs ≤ length ss → length bs ≤ length es → {count : ℕ} {ss' es' : List ℕ} →
-      (count ≡ length bs) × ((ss' ≡ over ss (starts_of bs)) × (es' ≡ over es (ends_of bs))) → report (Count count) ss' es' ≡ written bs ss es
+      (count ≡ length bs) × ((ss' ≡ over ss (starts_of bs)) × (es' ≡ over es (ends_of bs))) → report (Ok count) ss' es' ≡ written bs ss es
   unfolding written
   said k h w = rw (w.0, w.1.0, w.1.1, le-leb (length bs) (length ss) k, le-leb (length bs) (length es) h)

@@ -1,11 +1,11 @@
 -- The gap report of document 01: the walk over the held TSNs, in stored order, and what it leaves in the two lent lists.
 -- Assumes nothing.
-use Rattle.std.specs.Prelude.{ℕ, ◌+◌, Bool, cond, ◌&&◌, List, [], ◌∷◌, map, ltb, leb, eqb, length}
+use Rattle.std.specs.Prelude.{ℕ, ◌+◌, Bool, cond, ◌&&◌, List, [], ◌∷◌, map, ltb, leb, eqb, length, Result, Ok, Err}
 use Rattle.serial_model.specs.Serial.{ahead}
 use Rattle.wire_model.specs.BigEndian.{over}
 use Rattle.table.specs.declared.Row.{Row}
-use Rattle.gap_model.specs.declared.Reported.{Reported}
-use Rattle.gap_model.specs.declared.Reported.TheVariants.{Count, Short}
+use Rattle.refusal.specs.declared.Refusal.{Refusal}
+use Rattle.refusal.specs.declared.Refusal.TheVariants.{ShortOutput}
 
 -- a run of TSNs, by the offsets of its first and its last
 pub record Block : Type 0 where
@@ -53,20 +53,20 @@ ends_of bs = map (λ (b : Block). b.end) bs
 
 -- the answer, and what the two lent lists hold in the end
 pub record Report : Type 0 where
-  pub answer : Reported
+  pub answer : Result ℕ Refusal
   pub starts : List ℕ
   pub ends : List ℕ
 
 -- the report of an answer and two lists
-abbrev pub report : Reported → List ℕ → List ℕ → Report
+abbrev pub report : Result ℕ Refusal → List ℕ → List ℕ → Report
 report a ss es = record { answer = a; starts = ss; ends = es }
 
 -- "Starts and ends go to the front of two lent lists, the count is the answer, the rest stays"; lists too short: nothing changed
 unfoldable pub written : List Block → List ℕ → List ℕ → Report
 written bs ss es =
     cond (leb (length bs) (length ss) && leb (length bs) (length es))
-    (report (Count (length bs)) (over ss (starts_of bs)) (over es (ends_of bs)))
-    (report Short ss es)
+    (report (Ok (length bs)) (over ss (starts_of bs)) (over es (ends_of bs)))
+    (report (Err ShortOutput) ss es)
 
 -- the report over the rows held
 abbrev pub reported : List Row → ℕ → List ℕ → List ℕ → Report

@@ -6,9 +6,9 @@ ghost use Rattle.table.specs.Rows.{rows_of};
 ghost use Rattle.gap_model.specs.Gap.{report, reported};
 
 use gap_blocks::{count_blocks, write_blocks};
-pub use gap_model::Reported;
+use refusal::Refusal;
 
-// The report over the first n rows: written where both lists have room, else Short, and nothing is changed.
+// The report over the first n rows: written where both lists have room, else refused, and nothing is changed.
 // There are at most n blocks, so lists of n places need no dry pass.
 pub fn report(
     table: &[u32],
@@ -17,24 +17,22 @@ pub fn report(
     cumulative: u32,
     starts: &mut [u16],
     ends: &mut [u16],
-) -> Reported
+) -> Result<usize, Refusal>
     requires table_len { length table.now ≡ 4 * size }
     requires n_le_size { n ≤ size }
     ensures { report result starts.new ends.new ≡ reported (take n (rows_of size table.now)) cumulative starts.old ends.old }
 {
     if n <= starts.len() {
         if n <= ends.len() {
-            let count = write_blocks(table, size, n, cumulative, starts, ends);
-            return Reported::Count(count);
+            return Ok(write_blocks(table, size, n, cumulative, starts, ends));
         }
     }
     let needed = count_blocks(table, size, n, cumulative);
     if needed > starts.len() {
-        return Reported::Short;
+        return Err(Refusal::ShortOutput);
     }
     if needed > ends.len() {
-        return Reported::Short;
+        return Err(Refusal::ShortOutput);
     }
-    let count = write_blocks(table, size, n, cumulative, starts, ends);
-    Reported::Count(count)
+    Ok(write_blocks(table, size, n, cumulative, starts, ends))
 }

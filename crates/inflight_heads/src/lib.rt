@@ -14,10 +14,8 @@ pub fn mark_again(table: &mut [u32], n: usize)
     requires n_le_tsns_most { n ≤ tsns_most }
     ensures { rows_of tsns_most table.new ≡ over (rows_of tsns_most table.old) (map again_row (take n (rows_of tsns_most table.old))) }
 {
-    let mut i: usize = 0;
-    while i < n {
-        table[i] = inflight_head::again_head(table[i]);
-        i += 1;
+    for head in table[..n].iter_mut() {
+        *head = inflight_head::again_head(*head);
     }
 }
 
@@ -28,9 +26,7 @@ pub fn abandon(table: &mut [u32], messages: &[u64], n: usize, message: u64)
     requires n_in_bounds { n ≤ length messages.now }
     ensures { rows_of tsns_most table.new ≡ over (rows_of tsns_most table.old) (abandoned_among message (take n (rows_of tsns_most table.old)) (take n messages.now)) }
 {
-    let mut i: usize = 0;
-    while i < n {
+    for i in 0..n {
         table[i] = inflight_head::abandoned_if(messages[i] == message, table[i]);
-        i += 1;
     }
 }

@@ -7,49 +7,37 @@ ghost use Rattle.payload_model.specs.Answers.{done_told};
 ghost use Rattle.inflight_model.specs.Queue.{queue_of, after, pushed_no_check};
 
 use data_fields::ChunkPayloadData;
-use inflight_model::{Changed, Counts};
-use payload_model::{Done, TSNS, WORDS};
+use inflight_model::Counts;
+use payload_model::{TSNS, WORDS};
+use refusal::Refusal;
 
 // Stores the chunk by its TSN, without a mark, and the number of its message beside it; 18 where the TSN is held, 8 where no room is left.
 pub fn push_no_check(
-    counts: Counts,
+    counts: &mut Counts,
     table: &mut [u32; WORDS],
     messages: &mut [u64; TSNS],
     chunk: ChunkPayloadData,
     size: u16,
     message: u64,
-) -> Changed
-    ensures { after (done_told result.answer) (queue_of result.queue table.new messages.new) ≡ pushed_no_check (queue_of counts table.old messages.old) (row_of chunk size) message }
+) -> Result<(), Refusal>
+    ensures { after (done_told result) (queue_of counts.new table.new messages.new) ≡ pushed_no_check (queue_of counts.old table.old messages.old) (row_of chunk size) message }
 {
-    if inflight_counts::unsound(counts, table) {
-        return Changed {
-            answer: Done::Refused(0),
-            queue: counts,
-        };
+    if inflight_counts::unsound(*counts, table) {
+        return Err(Refusal::Unsound);
     }
     let count = counts.count;
     let row = payload_record::row_of(chunk, size);
     let tsn = row.tsn;
     if table_search::has_tsn(table, TSNS, 0, count, tsn) {
-        return Changed {
-            answer: Done::Refused(18),
-            queue: counts,
-        };
+        return Err(Refusal::HeldTsn);
     }
     if TSNS <= count {
-        return Changed {
-            answer: Done::Refused(8),
-            queue: counts,
-        };
+        return Err(Refusal::NoRoom);
     }
     let at = table_places::place_tsn(table, TSNS, 0, count, tsn);
     table_put::put_row(table, TSNS, count, at, row);
-    inflight_parts::put_number(messages, count, at, message);
-    let mut queue = counts;
-    queue.count = count + 1;
-    queue.n_bytes = queue.n_bytes + size as usize;
-    Changed {
-        answer: Done::All,
-        queue,
-    }
+    moves::put_one(messages, count, at, message);
+    counts.count = count + 1;
+    counts.n_bytes += size as usize;
+    Ok(())
 }

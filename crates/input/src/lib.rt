@@ -1,81 +1,61 @@
-// A window over standard input, in which the next call or record stands whole: where less than the longest one is left, what is left goes to the front and
+// A window over what a reader gives, in which the next call or record stands whole: where less than the longest one is left, what is left goes to the front and
 // more is read behind it.
 #![tactic(auto)]
 
-ghost use Rattle.std.specs.Prelude.{◌≡◌, ◌≤◌, min, length, IfOk};
-ghost use Rattle.wire_model.specs.BigEndian.{over};
-ghost use Rattle.moves_model.specs.Lists.{slice};
+ghost use Rattle.std.specs.Prelude.{◌≤◌, length, IfOk};
 
-use answer_text::operands;
 use std::io;
 use std::io::{ErrorKind, Read};
 
-pub const WINDOW: usize = 262144;
+const SIZE: usize = 262144;
 
 // No call is longer, and no record of captured chunks.
 const LONGEST: usize = 135000;
 
-// How long the call or record is that is looked at (0: there is none), from where to where bytes stand that begin with it, and whether the input ended.
-#[derive(Clone, Copy)]
-pub struct View {
-    pub size: usize,
-    pub from: usize,
-    pub to: usize,
-    pub ended: bool,
+#[derive(Drop)]
+pub struct Window {
+    bytes: [u8; SIZE],
+    // What is not used yet.
+    from: usize,
+    to: usize,
+    // Whether the reader has come to its end.
+    ended: bool,
+    ghost inside: { (from ≤ to) × (to ≤ 262144) },
 }
 
-pub fn unread() -> View {
-    View {
-        size: 0,
-        from: 0,
-        to: 0,
-        ended: false,
+impl Window {
+    pub fn new() -> Window {
+        Window {
+            bytes: [0; SIZE],
+            from: 0,
+            to: 0,
+            ended: false,
+        }
     }
-}
 
-// The window with a whole call or record, or with all that is left.
-pub fn ready<R: Read>(reader: &mut R, window: &mut [u8; WINDOW], view: View) -> io::Result<View> {
-    if view.ended {
-        return Ok(view);
+    // Reads on, where the next call or record may not stand whole.
+    pub fn fill<R: Read>(&mut self, reader: &mut R) -> io::Result<()> {
+        if !self.ended && self.to - self.from < LONGEST {
+            self.bytes.copy_within(self.from..self.to, 0);
+            let left = self.to - self.from;
+            self.from = 0;
+            self.to = left;
+            let more = read_full(reader, &mut self.bytes[left..])?;
+            self.to = left + more;
+            self.ended = left + more < SIZE;
+        }
+        Ok(())
     }
-    if LONGEST <= std::num::wrapping_sub_usize(view.to, view.from) {
-        return Ok(view);
-    }
-    let left = shift(window, view.from, view.to);
-    let to = read_behind(reader, window, left)?;
-    Ok(View {
-        size: 0,
-        from: 0,
-        to,
-        ended: to < WINDOW,
-    })
-}
 
-fn least(a: usize, b: usize) -> usize
-    ensures { result ≡ min a b }
-{
-    if a < b { a } else { b }
-}
-
-// Moves the bytes between two places to the front; how many they are.
-fn shift(window: &mut [u8], from: usize, to: usize) -> usize
-    ensures { (window.new ≡ over window.old (slice from to window.old)) × (result ≡ length (slice from to window.old)) }
-{
-    let end = least(to, window.len());
-    if end <= from {
-        return 0;
+    // A whole call or record, with what stands behind it; or all that is left.
+    pub fn rest(&self) -> &[u8] {
+        &self.bytes[self.from..self.to]
     }
-    moves::close_bytes(window, end, 0, from);
-    end - from
-}
 
-// Reads on behind the first bytes; where what is there then ends.
-fn read_behind<R: Read>(reader: &mut R, window: &mut [u8], left: usize) -> io::Result<usize> {
-    if window.len() < left {
-        return Ok(left);
+    // So many bytes are used.
+    pub fn consume(&mut self, n: usize) {
+        self.from = self.from.saturating_add(n).min(self.to);
     }
-    let more = read_full(reader, &mut window[left..])?;
-    Ok(std::num::wrapping_add_usize(left, more))
 }
 
 // Reads until these bytes are full or the input ends; how many were read.
@@ -98,21 +78,4 @@ fn read_full<R: Read>(reader: &mut R, bytes: &mut [u8]) -> io::Result<usize>
         }
     }
     Ok(done)
-}
-
-// What is left.
-pub fn rest(window: &[u8; WINDOW], view: View) -> &[u8] {
-    operands::part(window, view.from, view.to)
-}
-
-// The call or record.
-pub fn call(window: &[u8; WINDOW], view: View) -> &[u8] {
-    operands::first(rest(window, view), view.size)
-}
-
-// Behind it.
-pub fn behind(view: View) -> View {
-    let mut view = view;
-    view.from = std::num::wrapping_add_usize(view.from, view.size);
-    view
 }

@@ -21,15 +21,10 @@ pub fn find_after(table: &[u32], size: usize, from: usize, n: usize, tsn: u32) -
     requires n_bound { from + n ≤ size }
     ensures { result ≡ ahead_of (of_row (tsn_after tsn)) (take n (drop from (rows_of size table.now))) }
 {
-    let tsns = size + from;
-    let mut i: usize = 0;
-    while i < n {
-        if serial_tsns::sna32lt(tsn, table[tsns + i]) {
-            return i;
-        }
-        i += 1;
-    }
-    i
+    let tsns = table_columns::tsns(table, size, from, n);
+    tsns.iter()
+        .position(|held| serial_tsns::sna32lt(tsn, *held))
+        .unwrap_or(n)
 }
 
 // The size of the run by TSN value that goes down from a TSN, through the first B.
@@ -41,9 +36,7 @@ pub fn run_down(table: &[u32], size: usize, from: usize, n: usize, tsn: u32) -> 
 {
     let mut sum: usize = 0;
     let mut want = serial_steps::tsn_offset(1, tsn);
-    let mut i: usize = 0;
-    while i < n {
-        i += 1;
+    for _ in 0..n {
         let at = table_search::find_tsn(table, size, from, n, want);
         if n <= at {
             return sum;
@@ -67,9 +60,7 @@ pub fn run_up(table: &[u32], size: usize, from: usize, n: usize, tsn: u32) -> us
 {
     let mut sum: usize = 0;
     let mut want = serial_steps::tsn_next(tsn);
-    let mut i: usize = 0;
-    while i < n {
-        i += 1;
+    for _ in 0..n {
         let at = table_search::find_tsn(table, size, from, n, want);
         if n <= at {
             return sum;
@@ -94,15 +85,17 @@ fn scan_rows(table: &[u32], size: usize, from: usize, n: usize) -> Span
     // A run that starts at i is none.
     let mut start: usize = 0;
     let mut want: u32 = 0;
-    let mut i: usize = 0;
-    while i < n {
+    for i in 0..n {
         let flags = table[from + i] / 16777216;
         let tsn = table[tsns + i];
         start = starts(i, start, want, flags, tsn);
-        i += 1;
+        let passed = i + 1;
         if flags % 2 == 1 {
-            if start < i {
-                return Span { from: start, to: i };
+            if start < passed {
+                return Span {
+                    from: start,
+                    to: passed,
+                };
             }
         }
         want = serial_steps::tsn_next(tsn);

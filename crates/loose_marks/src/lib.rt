@@ -13,12 +13,10 @@ pub fn has_marks(table: &[u32], size: usize, from: usize, n: usize) -> bool
 {
     let mut begin = false;
     let mut end = false;
-    let mut i: usize = 0;
-    while i < n {
-        let flags = table[from + i] / 16777216;
+    for head in table_columns::heads(table, size, from, n) {
+        let flags = *head / 16777216;
         begin = begin | (flags / 2 % 2 == 1);
         end = end | (flags % 2 == 1);
-        i += 1;
     }
     begin & end
 }

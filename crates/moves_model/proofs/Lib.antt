@@ -1,5 +1,2 @@
-pub mod Fill
-pub mod Pasted
-pub mod Moves
-pub mod Flip
+pub mod Shifted
 pub mod Turned

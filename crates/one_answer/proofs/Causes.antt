@@ -3,34 +3,30 @@
 use mathlib.Core.Path.{◌≡◌, refl, sym, ap, ◌∙◌}
 use mathlib.Core.List.{List}
 use Prim.Native.Nat.{ℕ}
-use Rattle.wire_model.specs.Refusal.{Refusal, none, refuse, Told}
+use Rattle.std.specs.Prelude.{Result}
+use Rattle.wire_model.specs.Refusal.{Told}
+use Rattle.refusal.specs.Told.{count_told}
+use Rattle.refusal.specs.declared.Refusal.{Refusal}
+use Rattle.refusal.proofs.Reasons.{answer_back, answer_inverse}
 use Rattle.cause_parts.specs.Lists.{Lists}
-use Rattle.error_causes.specs.Counts.{count_told}
-use Rattle.error_causes.specs.declared.Counted.{Counted}
-use Rattle.error_causes.specs.declared.Counted.TheVariants as counts
 use Rattle.cause_report.specs.Report.{Report, report, reported}
 use Rattle.one_answer.proofs.Only.{Only, only, both}
 
 -- the answer, and what the lists hold in the end
 pub record Listed : Type 0 where
-  pub gives : Counted
+  pub gives : Result ℕ Refusal
   pub lists : Lists
 
-abbrev answered : Told ℕ → Counted
-answered t = go t.refusal
-  where
-    go : Refusal → Counted
-    go none = counts.Causes t.values
-    go (refuse k) = counts.Refused k
+abbrev answered : Told ℕ → Result ℕ Refusal
+answered = answer_back (λ (n : ℕ). n)
 
-answered-back : (c : Counted) → answered (count_told c) ≡ c
-answered-back (counts.Causes n) = refl
-answered-back (counts.Refused k) = refl
+answered-back : (c : Result ℕ Refusal) → answered (count_told c) ≡ c
+answered-back c = answer_inverse 0 (λ (n : ℕ). n) (λ (n : ℕ). n) (λ (n : ℕ). refl) c
 
 listed-one : {b : Report} → Only (λ (o : Listed). report (count_told o.gives) o.lists ≡ b)
 listed-one r s p q =
     let e : report (count_told r.gives) r.lists ≡ report (count_told s.gives) s.lists = p ∙ sym q in
-    both (λ (c : Counted) (l : Lists). record { gives = c; lists = l })
+    both (λ (c : Result ℕ Refusal) (l : Lists). record { gives = c; lists = l })
     (only count_told answered answered-back r.gives s.gives (ap (λ (x : Report). x.count) e) refl)
     (ap (λ (x : Report). x.lists) e)
 

@@ -4,17 +4,19 @@ use mathlib.Core.Path.{◌≡◌, sym, ◌∙◌}
 use mathlib.Core.List.{List}
 use Prim.Native.Nat.{ℕ}
 use denote.Ref.{Bor}
+use Rattle.std.specs.Prelude.{Result, Option}
 use Rattle.crc32c.specs.Crc.{through, crc32c}
 use Rattle.wire_model.specs.Refusal.{written}
 use Rattle.wire.proofs.Exists.{Bytes}
-use Rattle.chunk.specs.Marshal.{marshal_told}
+use Rattle.refusal.specs.Told.{count_told}
+use Rattle.refusal.specs.declared.Refusal.{Refusal}
 use Rattle.packet_chunks.specs.Chunks.{step_told, step_at}
-use Rattle.packet_chunks.specs.declared.Step.{Step}
+use Rattle.packet_chunks.specs.declared.Found.{Found}
 use Rattle.packet_walker.specs.Walk.{Lies, bytes_at, place_after}
 use Rattle.packet_walker.specs.declared.Walker.{Walker}
 use Rattle.packet.specs.Layout.{Common}
 use Rattle.packet.specs.Header.{CommonFront, common_told, common_read}
-use Rattle.packet.specs.declared.Unmarshalled.{Unmarshalled}
+use Rattle.packet.specs.declared.CommonHeader.{CommonHeader}
 use Rattle.packet_marshal.specs.Written.{packet_written}
 use Rattle.packet_theorems.proofs.OneAnswer.{step-one, header-one}
 use Rattle.one_answer.proofs.Only.{Only, named-one, both}
@@ -32,10 +34,10 @@ module _ (register : ℕ) (bytes : List ℕ) where
 -- ── the readers ──
 
 module _ (raw : List ℕ) where
-  pub packet_unmarshal_one : Bytes raw → Only (λ (r : Unmarshalled). (f : CommonFront raw) → common_told r ≡ common_read raw f.fields)
+  pub packet_unmarshal_one : Bytes raw → Only (λ (r : Result CommonHeader Refusal). (f : CommonFront raw) → common_told r ≡ common_read raw f.fields)
   packet_unmarshal_one by r s p q = header-one raw by p q
 
-  pub packet-chunk-at-one : (at : ℕ) → Only (λ (r : Step). step_told r ≡ step_at raw at)
+  pub packet-chunk-at-one : (at : ℕ) → Only (λ (r : Result (Option Found) Refusal). step_told r ≡ step_at raw at)
   packet-chunk-at-one at r s p q = step-one raw at p q
 
 -- ── the walker ──
@@ -53,7 +55,7 @@ module _ (packet : Bor (List ℕ)) (at : ℕ) where
   pub walker-new-one : Only (λ (r : Walker). (r.packet ≡ packet) × (r.place ≡ 12))
   walker-new-one = walks
 
-  pub walker-step-one : Only (λ (r : Step). step_told r ≡ step_at packet.now at)
+  pub walker-step-one : Only (λ (r : Result (Option Found) Refusal). step_told r ≡ step_at packet.now at)
   walker-step-one r s p q = step-one packet.now at p q
 
   pub walker-chunk-one : Only (λ (r : Lies). r ≡ bytes_at packet at)
@@ -64,5 +66,5 @@ module _ (packet : Bor (List ℕ)) (at : ℕ) where
 
 -- ── the writer: the answer and the buffer ──
 
-pub packet_marshal_to_one : (c : Common) (chunks out : List ℕ) → Only (λ (o : Wrote). written (marshal_told o.gives) o.out ≡ packet_written c chunks out)
+pub packet_marshal_to_one : (c : Common) (chunks out : List ℕ) → Only (λ (o : Wrote). written (count_told o.gives) o.out ≡ packet_written c chunks out)
 packet_marshal_to_one c chunks out = wrote

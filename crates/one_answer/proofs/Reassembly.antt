@@ -6,9 +6,10 @@ use mathlib.Core.List.{List}
 use Prim.Native.Nat.{ℕ}
 use Rattle.wire_model.specs.Refusal.{Told}
 use Rattle.data_fields.specs.declared.ChunkPayloadData.{ChunkPayloadData}
-use Rattle.chunks.specs.Message.{flag_told, number_told}
-use Rattle.chunks.specs.declared.Flag.{Flag}
-use Rattle.chunks.specs.declared.Number.{Number}
+use Rattle.std.specs.Prelude.{Bool, Result, Option}
+use Rattle.refusal.specs.declared.Refusal.{Refusal}
+use Rattle.refusal.specs.Told.{flag_told, count_told}
+use Rattle.chunks.specs.declared.Chunks.{Chunks}
 use Rattle.reassembly_state.specs.Model.{Message}
 use Rattle.reassembly_state.specs.State.{After, after, pushed, is_readable, Read, reads, read, forward_ordered, forward_unordered, num_bytes}
 use Rattle.reassembly_queue.specs.Queue.{state_of, fresh}
@@ -16,47 +17,41 @@ use Rattle.reassembly_state.specs.Answers.{took_told, done_told}
 use Rattle.reassembly_bounded.specs.Bounded.{forward_bounded}
 use Rattle.reassembly_applicable.specs.Applicable.{applicable}
 use Rattle.reassembly_applicable.specs.Answers.{applicable_told}
-use Rattle.reassembly_applicable.specs.declared.Applicable.{Applicable}
 use Rattle.reassembly_queue.specs.declared.ReassemblyQueue.{ReassemblyQueue}
-use Rattle.reassembly_queue.specs.declared.Pushed.{Pushed}
-use Rattle.reassembly_queue.specs.declared.Taken.{Taken}
-use Rattle.reassembly_queue.specs.declared.Forwarded.{Forwarded}
 use Rattle.wire.proofs.Exists.{Bytes}
 use Rattle.forward_tsn.specs.Applied.{Pairs, applied_to_stream}
 use Rattle.forward_theorems.proofs.Pairs.{pairs-some}
 use Rattle.one_answer.proofs.Only.{Only, named-one, both}
-use Rattle.one_answer.proofs.Told.{hand_flag_one, hand_number_one, took_one, rq_done_one, applicable-one}
+use Rattle.one_answer.proofs.Told.{flag_one, count-one, took_one, done-one, applicable-one}
 use Rattle.one_answer.proofs.States.{FragmentWords, rq_struct_one, rq_words_one, rq_pool_one}
 
 -- ── outcomes ──
 
--- what a call gives, and the table's words and the pool's bytes at exit
+-- what a call gives, and at exit the struct, the table's words and the pool's bytes
 pub record Left (A : Type 0) : Type 0 where
   pub gives : A
+  pub queue : ReassemblyQueue
   pub table : List ℕ
   pub pool : List ℕ
 
 -- and the buffer's bytes
 pub record LeftRead : Type 0 where
-  pub gives : Taken
+  pub gives : Result (Option Chunks) Refusal
+  pub queue : ReassemblyQueue
   pub table : List ℕ
   pub pool : List ℕ
   pub buffer : List ℕ
 
--- ── a struct of an answer and a queue, beside table and pool ──
+-- ── an answer and a queue, beside table and pool ──
 
-module _ {A B S : Type 0} (told : A → Told B) (told-one : (b : Told B) → Only (λ (r : A). told r ≡ b))
-    (answer : S → A) (queue : S → ReassemblyQueue) (same : (r s : S) → answer r ≡ answer s → queue r ≡ queue s → r ≡ s) where
-  left_one : {b : After B} → Only (λ (o : Left S). FragmentWords o.table × (after (told (answer o.gives)) (state_of (queue o.gives) o.table o.pool) ≡ b))
+module _ {A B : Type 0} (told : A → Told B) (told-one : (b : Told B) → Only (λ (r : A). told r ≡ b)) where
+  left_one : {b : After B} → Only (λ (o : Left A). FragmentWords o.table × (after (told o.gives) (state_of o.queue o.table o.pool) ≡ b))
   left_one r s p q =
-      let e : after (told (answer r.gives)) (state_of (queue r.gives) r.table r.pool) ≡ after (told (answer s.gives)) (state_of (queue s.gives) s.table s.pool) = p.1 ∙ sym q.1 in
+      let e : after (told r.gives) (state_of r.queue r.table r.pool) ≡ after (told s.gives) (state_of s.queue s.table s.pool) = p.1 ∙ sym q.1 in
       let l = ap (λ (x : After B). x.state) e in
-      let a = told-one (told (answer s.gives)) (answer r.gives) (answer s.gives) (ap (λ (x : After B). x.told) e) refl in
-      both (λ (g : S) (lent : List ℕ × List ℕ). record { gives = g; table = lent.0; pool = lent.1 })
-      (same r.gives s.gives a (rq_struct_one (queue r.gives) (queue s.gives) r.table s.table r.pool s.pool l))
-      (both (λ (ws pool : List ℕ). (ws, pool))
-      (rq_words_one (queue r.gives) (queue s.gives) r.table s.table r.pool s.pool l p.0 q.0)
-      (rq_pool_one (queue r.gives) (queue s.gives) r.table s.table r.pool s.pool l))
+      both (λ (g : A × ReassemblyQueue) (lent : List ℕ × List ℕ). record { gives = g.0; queue = g.1; table = lent.0; pool = lent.1 })
+      (both (λ (g : A) (k : ReassemblyQueue). (g, k)) (told-one (told s.gives) r.gives s.gives (ap (λ (x : After B). x.told) e) refl) (rq_struct_one r.queue s.queue r.table s.table r.pool s.pool l))
+      (both (λ (ws pool : List ℕ). (ws, pool)) (rq_words_one r.queue s.queue r.table s.table r.pool s.pool l p.0 q.0) (rq_pool_one r.queue s.queue r.table s.table r.pool s.pool l))
 
 -- ── the calls ──
 
@@ -65,45 +60,44 @@ rq_new_one si max_message_size = named-one
 
 module _ (self : ReassemblyQueue) (table pool : List ℕ) where
   pub rq_push_one : (chunk : ChunkPayloadData) (user_data : List ℕ)
-      → Only (λ (o : Left Pushed). FragmentWords o.table × (after (flag_told o.gives.answer) (state_of o.gives.queue o.table o.pool) ≡ pushed (state_of self table pool) chunk user_data))
-  rq_push_one chunk user_data = left_one flag_told (λ b. hand_flag_one) (λ (r : Pushed). r.answer) (λ (r : Pushed). r.queue) (λ r s. both (λ a l. record { answer = a; queue = l }))
+      → Only (λ (o : Left (Result Bool Refusal)). FragmentWords o.table × (after (flag_told o.gives) (state_of o.queue o.table o.pool) ≡ pushed (state_of self table pool) chunk user_data))
+  rq_push_one chunk user_data = left_one flag_told (λ b. flag_one)
 
-  pub rq_is_readable_one : Only (λ (r : Flag). flag_told r ≡ is_readable (state_of self table pool))
-  rq_is_readable_one = hand_flag_one
+  pub rq_is_readable_one : Only (λ (r : Result Bool Refusal). flag_told r ≡ is_readable (state_of self table pool))
+  rq_is_readable_one = flag_one
 
   pub rq_read_one : (buffer : List ℕ)
-      → Only (λ (o : LeftRead). FragmentWords o.table × (reads (took_told o.gives.answer) (state_of o.gives.queue o.table o.pool) o.buffer ≡ read (state_of self table pool) buffer))
+      → Only (λ (o : LeftRead). FragmentWords o.table × (reads (took_told o.gives) (state_of o.queue o.table o.pool) o.buffer ≡ read (state_of self table pool) buffer))
   rq_read_one buffer r s p q =
-      let left : LeftRead → Left Taken = λ (o : LeftRead). record { gives = o.gives; table = o.table; pool = o.pool } in
+      let left : LeftRead → Left (Result (Option Chunks) Refusal) = λ (o : LeftRead). record { gives = o.gives; queue = o.queue; table = o.table; pool = o.pool } in
       let leaves : Read → After Message = λ (x : Read). after x.told x.state in
-      both (λ (l : Left Taken) (b : List ℕ). record { gives = l.gives; table = l.table; pool = l.pool; buffer = b })
-      (left_one took_told (λ b. took_one) (λ (r : Taken). r.answer) (λ (r : Taken). r.queue) (λ r s. both (λ a l. record { answer = a; queue = l }))
-      (left r) (left s) (p.0, ap leaves p.1) (q.0, ap leaves q.1))
+      both (λ (l : Left (Result (Option Chunks) Refusal)) (b : List ℕ). record { gives = l.gives; queue = l.queue; table = l.table; pool = l.pool; buffer = b })
+      (left_one took_told (λ b. took_one) (left r) (left s) (p.0, ap leaves p.1) (q.0, ap leaves q.1))
       (ap (λ (x : Read). x.buffer) (p.1 ∙ sym q.1))
 
   pub rq_forward_tsn_for_ordered_one : (last_ssn : ℕ)
-      → Only (λ (o : Left Forwarded). FragmentWords o.table × (after (done_told o.gives.answer) (state_of o.gives.queue o.table o.pool) ≡ forward_ordered (state_of self table pool) last_ssn))
-  rq_forward_tsn_for_ordered_one last_ssn = left_one done_told (λ b. rq_done_one) (λ (r : Forwarded). r.answer) (λ (r : Forwarded). r.queue) (λ r s. both (λ a l. record { answer = a; queue = l }))
+      → Only (λ (o : Left (Result (Unit {0}) Refusal)). FragmentWords o.table × (after (done_told o.gives) (state_of o.queue o.table o.pool) ≡ forward_ordered (state_of self table pool) last_ssn))
+  rq_forward_tsn_for_ordered_one last_ssn = left_one done_told (λ b. done-one)
 
   pub rq_forward_tsn_for_unordered_one : (new_cumulative_tsn : ℕ)
-      → Only (λ (o : Left Forwarded). FragmentWords o.table × (after (done_told o.gives.answer) (state_of o.gives.queue o.table o.pool) ≡ forward_unordered (state_of self table pool) new_cumulative_tsn))
-  rq_forward_tsn_for_unordered_one new_cumulative_tsn = left_one done_told (λ b. rq_done_one) (λ (r : Forwarded). r.answer) (λ (r : Forwarded). r.queue) (λ r s. both (λ a l. record { answer = a; queue = l }))
+      → Only (λ (o : Left (Result (Unit {0}) Refusal)). FragmentWords o.table × (after (done_told o.gives) (state_of o.queue o.table o.pool) ≡ forward_unordered (state_of self table pool) new_cumulative_tsn))
+  rq_forward_tsn_for_unordered_one new_cumulative_tsn = left_one done_told (λ b. done-one)
 
   pub rq_forward_tsn_for_ordered_bounded_one : (last_ssn new_cumulative_tsn : ℕ)
-      → Only (λ (o : Left Forwarded). FragmentWords o.table × (after (done_told o.gives.answer) (state_of o.gives.queue o.table o.pool) ≡ forward_bounded (state_of self table pool) last_ssn new_cumulative_tsn))
-  rq_forward_tsn_for_ordered_bounded_one last_ssn new_cumulative_tsn = left_one done_told (λ b. rq_done_one) (λ (r : Forwarded). r.answer) (λ (r : Forwarded). r.queue) (λ r s. both (λ a l. record { answer = a; queue = l }))
+      → Only (λ (o : Left (Result (Unit {0}) Refusal)). FragmentWords o.table × (after (done_told o.gives) (state_of o.queue o.table o.pool) ≡ forward_bounded (state_of self table pool) last_ssn new_cumulative_tsn))
+  rq_forward_tsn_for_ordered_bounded_one last_ssn new_cumulative_tsn = left_one done_told (λ b. done-one)
 
-  pub rq_applicable_forward_tsn_for_ordered_bounded_one : (last_ssn new_cumulative_tsn peer_last_tsn : ℕ) → Only (λ (r : Applicable). applicable_told r ≡ applicable (state_of self table pool) last_ssn new_cumulative_tsn peer_last_tsn)
+  pub rq_applicable_forward_tsn_for_ordered_bounded_one : (last_ssn new_cumulative_tsn peer_last_tsn : ℕ) → Only (λ (r : Result (Option ℕ) Refusal). applicable_told r ≡ applicable (state_of self table pool) last_ssn new_cumulative_tsn peer_last_tsn)
   rq_applicable_forward_tsn_for_ordered_bounded_one last_ssn new_cumulative_tsn peer_last_tsn = applicable-one
 
-  pub rq_get_num_bytes_one : Only (λ (r : Number). number_told r ≡ num_bytes (state_of self table pool))
-  rq_get_num_bytes_one = hand_number_one
+  pub rq_get_num_bytes_one : Only (λ (r : Result ℕ Refusal). count_told r ≡ num_bytes (state_of self table pool))
+  rq_get_num_bytes_one = count-one
 
   -- ── a FORWARD TSN chunk applied ──
 
   pub forward-tsn_apply_to_stream_one : (cumulative_tsn new_cumulative_tsn : ℕ) (streams : List ℕ) → Bytes streams
-      → Only (λ (o : Left Forwarded). FragmentWords o.table
-      × ((f : Pairs streams) → after (done_told o.gives.answer) (state_of o.gives.queue o.table o.pool) ≡ applied_to_stream (state_of self table pool) cumulative_tsn new_cumulative_tsn f.streams f.ssns))
+      → Only (λ (o : Left (Result (Unit {0}) Refusal)). FragmentWords o.table
+      × ((f : Pairs streams) → after (done_told o.gives) (state_of o.queue o.table o.pool) ≡ applied_to_stream (state_of self table pool) cumulative_tsn new_cumulative_tsn f.streams f.ssns))
   forward-tsn_apply_to_stream_one cumulative_tsn new_cumulative_tsn streams by r s p q =
       let f = pairs-some streams by in
-      left_one done_told (λ b. rq_done_one) (λ (r : Forwarded). r.answer) (λ (r : Forwarded). r.queue) (λ r s. both (λ a l. record { answer = a; queue = l })) r s (p.0, p.1 f) (q.0, q.1 f)
+      left_one done_told (λ b. done-one) r s (p.0, p.1 f) (q.0, q.1 f)

@@ -4,6 +4,7 @@ use mathlib.Core.Path.{◌≡◌, refl, sym, ap, ◌∙◌}
 use mathlib.Core.Bool.{Bool}
 use mathlib.Core.List.{List}
 use Prim.Native.Nat.{ℕ}
+use Rattle.std.specs.Prelude.{Option, Some, None}
 use Rattle.counters.specs.Counted as counted
 use Rattle.counters.specs.Counted.{counted_as}
 use Rattle.counters.specs.declared.Counters.{Counters}
@@ -39,17 +40,17 @@ module _ (counters : Counters) (kind : Kind) where
 pub replay_is_known_one : (file : List ℕ) → Only (λ (r : Bool). r ≡ versioned file)
 replay_is_known_one file = named-one
 
-abbrev record_of : Start → Record
-record_of file.none = records.Nothing
-record_of file.short = records.Cut
-record_of (file.chunk n) = records.Chunk n
+abbrev record_of : Start → Option Record
+record_of file.none = None
+record_of file.short = Some records.Cut
+record_of (file.chunk n) = Some (records.Chunk n)
 
-record_back : (r : Record) → record_of (record_told r) ≡ r
-record_back records.Nothing = refl
-record_back records.Cut = refl
-record_back (records.Chunk n) = refl
+record_back : (r : Option Record) → record_of (record_told r) ≡ r
+record_back None = refl
+record_back (Some records.Cut) = refl
+record_back (Some (records.Chunk n)) = refl
 
-pub replay_record_at_one : (rest : List ℕ) → Only (λ (r : Record). record_told r ≡ start rest)
+pub replay_record_at_one : (rest : List ℕ) → Only (λ (r : Option Record). record_told r ≡ start rest)
 replay_record_at_one rest = only record_told record_of record_back
 
 pub replay_most_records_one : Only (λ (r : ℕ). r ≡ records_most)
@@ -60,24 +61,28 @@ replay_most_records_one = named-one
 pub replay_new_one : Only (λ (r : Replay). r ≡ fresh)
 replay_new_one = named-one
 
--- what a step gives, the table's words at exit, and the line
+-- what a step gives, the replay and the table's words at exit, and the line
 pub record Stepped : Type 0 where
   pub gives : Turn
+  pub replay : Replay
   pub table : List ℕ
   pub line : List ℕ
 
--- a turn of these parts
-abbrev turn_of : Left → PayloadQueue → Turn
-turn_of l q = record { more = l.more; taken = l.taken; written = l.written; replay = record { number = l.state.number; queue = q; counters = l.state.counters } }
+-- a turn of these parts, and the replay behind it
+abbrev turn_of : Left → Turn
+turn_of l = record { more = l.more; taken = l.taken; written = l.written }
+
+abbrev replay_of : Left → PayloadQueue → Replay
+replay_of l q = record { number = l.state.number; queue = q; counters = l.state.counters }
 
 pub replay_step_one : (replay : Replay) (rest table line : List ℕ)
-    → Only (λ (o : Stepped). TsnWords o.table × (left_of o.gives o.table o.line ≡ left (stepped (state_of replay table) rest) line))
+    → Only (λ (o : Stepped). TsnWords o.table × (left_of o.gives o.replay o.table o.line ≡ left (stepped (state_of replay table) rest) line))
 replay_step_one replay rest table line r s p q =
-    let e : left_of r.gives r.table r.line ≡ left_of s.gives s.table s.line = p.1 ∙ sym q.1 in
+    let e : left_of r.gives r.replay r.table r.line ≡ left_of s.gives s.replay s.table s.line = p.1 ∙ sym q.1 in
     let l = ap (λ (x : Left). x.state.queue) e in
-    let queue = tsn_struct_one r.gives.replay.queue s.gives.replay.queue r.table s.table l in
-    let words = tsn-words-one r.gives.replay.queue s.gives.replay.queue r.table s.table l p.0 q.0 in
-    both (λ (x : Left × PayloadQueue) (ws : List ℕ). record { gives = turn_of x.0 x.1; table = ws; line = x.0.line })
+    let queue = tsn_struct_one r.replay.queue s.replay.queue r.table s.table l in
+    let words = tsn-words-one r.replay.queue s.replay.queue r.table s.table l p.0 q.0 in
+    both (λ (x : Left × PayloadQueue) (ws : List ℕ). record { gives = turn_of x.0; replay = replay_of x.0 x.1; table = ws; line = x.0.line })
     (both (λ (x : Left) (k : PayloadQueue). (x, k)) e queue) words
 
 -- what is put at the front of a line: how many bytes, and the line

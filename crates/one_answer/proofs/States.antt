@@ -14,7 +14,7 @@ use Rattle.inflight_queue.specs.Queue as flight
 use Rattle.inflight_queue.specs.declared.InFlightQueue.{InFlightQueue}
 use Rattle.reassembly_state.specs.Limits.{frags_most}
 use Rattle.reassembly_state.specs.State.{State}
-use Rattle.reassembly_queue.specs.Queue.{struct_of, state_of}
+use Rattle.reassembly_queue.specs.Queue.{state_of}
 use Rattle.reassembly_queue.specs.declared.ReassemblyQueue.{ReassemblyQueue}
 
 -- ── the TSN queue ──
@@ -25,7 +25,7 @@ TsnWords ws = length ws ≡ 4 * tsns_most
 
 module _ (q p : PayloadQueue) (ws vs : List ℕ) (e : queue_of q ws ≡ queue_of p vs) where
   pub tsn_struct_one : q ≡ p
-  tsn_struct_one = ap (λ (s : Queue). record { count = s.count; n_bytes = s.bytes; dups = s.dups; dup_tsn = s.log }) e
+  tsn_struct_one = ap (λ (s : Queue). record { counts = record { count = s.count; n_bytes = s.bytes; dups = s.dups; dup_tsn = s.log } }) e
 
   pub tsn-words-one : TsnWords ws → TsnWords vs → ws ≡ vs
   tsn-words-one h k = injective tsns_most ws vs h k (ap (λ (s : Queue). s.rows) e)
@@ -34,7 +34,7 @@ module _ (q p : PayloadQueue) (ws vs : List ℕ) (e : queue_of q ws ≡ queue_of
 
 module _ (q p : InFlightQueue) (ws vs ms ns : List ℕ) (e : flight.queue_of q ws ms ≡ flight.queue_of p vs ns) where
   pub flight_struct_one : q ≡ p
-  flight_struct_one = ap (λ (s : flight-state.Queue). record { count = s.count; n_bytes = s.bytes }) e
+  flight_struct_one = ap (λ (s : flight-state.Queue). record { counts = record { count = s.count; n_bytes = s.bytes } }) e
 
   pub flight_words_one : TsnWords ws → TsnWords vs → ws ≡ vs
   flight_words_one h k = injective tsns_most ws vs h k (ap (λ (s : flight-state.Queue). s.rows) e)
@@ -49,7 +49,7 @@ FragmentWords ws = length ws ≡ 4 * frags_most
 
 module _ (q p : ReassemblyQueue) (ws vs pool pool' : List ℕ) (e : state_of q ws pool ≡ state_of p vs pool') where
   pub rq_struct_one : q ≡ p
-  rq_struct_one = ap (λ (s : State). struct_of s.queue) e
+  rq_struct_one = ap (λ (s : State). record { counts = s.queue }) e
 
   pub rq_words_one : FragmentWords ws → FragmentWords vs → ws ≡ vs
   rq_words_one h k = injective frags_most ws vs h k (ap (λ (s : State). s.rows) e)

@@ -5,17 +5,13 @@ ghost use Rattle.std.specs.Prelude.{◌≡◌, ◌++◌, ◌≤◌, length, take
 ghost use Rattle.crc32c.specs.Crc.{crc32c, little_endian};
 ghost use Rattle.packet.specs.Header.{CommonFront, common_told, common_read};
 
+use refusal::Refusal;
+
 #[derive(Clone, Copy)]
 pub struct CommonHeader {
     pub source_port: u16,
     pub destination_port: u16,
     pub verification_tag: u32,
-}
-
-#[derive(Clone, Copy)]
-pub enum Unmarshalled {
-    Header(CommonHeader),
-    Refused(u8),
 }
 
 // The sum of the whole packet, with the field as four bytes of 0.
@@ -30,21 +26,21 @@ fn sum(raw: &[u8]) -> u32
 }
 
 // The common header of the packet, if its checksum is right.
-pub fn unmarshal(raw: &[u8]) -> Unmarshalled
+pub fn unmarshal(raw: &[u8]) -> Result<CommonHeader, Refusal>
     ensures { (f : CommonFront raw.now) → common_told result ≡ common_read raw.now f.fields }
 {
     if raw.len() < 12 {
-        return Unmarshalled::Refused(13);
+        return Err(Refusal::ShortPacket);
     }
     let right = packet_parts::swapped(sum(raw));
     let stands = wire::get_u32(raw, 8);
     if stands != right {
-        return Unmarshalled::Refused(14);
+        return Err(Refusal::WrongChecksum);
     }
     let source_port = wire::get_u16(raw, 0);
     let destination_port = wire::get_u16(raw, 2);
     let verification_tag = wire::get_u32(raw, 4);
-    Unmarshalled::Header(CommonHeader {
+    Ok(CommonHeader {
         source_port,
         destination_port,
         verification_tag,

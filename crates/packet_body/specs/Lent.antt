@@ -1,10 +1,9 @@
 -- "chunks lent back to back without padding", and what a packet has of them: "chunks in order, zero padding".
 -- Assumes nothing.
-use Rattle.std.specs.Prelude.{ℕ, zero, suc, ◌-◌, ◌*◌, ◌≤◌, List, [], ◌∷◌, ◌++◌, length, take, drop, replicate}
+use Rattle.std.specs.Prelude.{ℕ, zero, suc, ◌-◌, ◌*◌, ◌≤◌, List, [], ◌∷◌, ◌++◌, length, take, drop, replicate, Result, Ok, Err}
 use Rattle.wire_model.specs.Refusal.{Check, first, Told, answer}
 use Rattle.packet_parts.specs.Fronts.{front_size, left_checks, rounded}
-use Rattle.chunk.specs.declared.Marshalled.{Marshalled}
-use Rattle.chunk.specs.declared.Marshalled.TheVariants.{Bytes, Refused}
+use Rattle.refusal.specs.declared.Refusal.{Refusal}
 
 -- the chunks, each as long as its header says, in at most so many turns
 unfoldable pub cut : ℕ → List ℕ → List (List ℕ)
@@ -40,6 +39,6 @@ unfoldable pub body_size : List ℕ → Told ℕ
 body_size lent = answer 0 (first (lent_checks lent)) (length (body lent))
 
 -- a body has less than twice the bytes that are lent
-abbrev pub BodyRoom : ℕ → Marshalled → Type 0
-BodyRoom lent (Bytes n) = 4 * n ≤ 7 * lent
-BodyRoom lent (Refused k) = Unit {0}
+abbrev pub BodyRoom : ℕ → Result ℕ Refusal → Type 0
+BodyRoom lent (Ok n) = 4 * n ≤ 7 * lent
+BodyRoom lent (Err e) = Unit {0}

@@ -4,32 +4,24 @@
 ghost use Rattle.std.specs.Prelude.{◌≡◌, ◌≤◌, length};
 ghost use Rattle.wire_model.specs.BigEndian.{over};
 ghost use Rattle.wire_model.specs.Refusal.{none, first};
-ghost use Rattle.chunk.specs.Marshal.{marshal_told};
+ghost use Rattle.refusal.specs.Told.{count_told};
 ghost use Rattle.packet_body.specs.Lent.{lent_checks, padded, body, body_size, BodyRoom};
 
-use chunk::Marshalled;
-use packet_parts::Size;
+use refusal::Refusal;
 
 // How many bytes the lent chunks are with their padding, or what refuses the first bad one.
-pub fn measure(chunks: &[u8]) -> Marshalled
-    ensures result_value { marshal_told result ≡ body_size chunks.now }
+pub fn measure(chunks: &[u8]) -> Result<usize, Refusal>
+    ensures result_value { count_told result ≡ body_size chunks.now }
     ensures body_room { BodyRoom (length chunks.now) result }
 {
     let mut at: usize = 0;
     let mut size: usize = 0;
     while at < chunks.len() {
-        let front = packet_parts::chunk_size(&chunks[at..]);
-        match front {
-            Size::Refused(k) => {
-                return Marshalled::Refused(k);
-            }
-            Size::Bytes(n) => {
-                at += n as usize;
-                size += packet_parts::padded_size(n);
-            }
-        }
+        let front = packet_parts::chunk_size(&chunks[at..])?;
+        at += front as usize;
+        size += packet_parts::padded_size(front);
     }
-    Marshalled::Bytes(size)
+    Ok(size)
 }
 
 // A chunk with its padding, put at the front of what is lent: the last four bytes are zeros before the chunk goes over them.

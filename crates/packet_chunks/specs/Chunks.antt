@@ -1,10 +1,11 @@
 -- The chunks of a packet, from a place on: document 02's request M-103.
 -- Assumes nothing.
-use Rattle.std.specs.Prelude.{ℕ, ◌+◌, min, ◌||◌, List, [], ◌∷◌, ◌++◌, ltb, length, drop}
-use Rattle.wire_model.specs.Refusal.{none, refuse, Check, when, first, Told, says, answer}
+use Rattle.std.specs.Prelude.{ℕ, ◌+◌, min, ◌||◌, List, [], ◌∷◌, ◌++◌, ltb, length, drop, Result, Option, Some, None}
+use Rattle.wire_model.specs.Refusal.{Check, when, first, Told, answer}
 use Rattle.packet_parts.specs.Fronts.{front_size, left_checks, rounded}
-use Rattle.packet_chunks.specs.declared.Step.{Step}
-use Rattle.packet_chunks.specs.declared.Step.TheVariants as steps
+use Rattle.refusal.specs.Told.{answer_told}
+use Rattle.refusal.specs.declared.Refusal.{Refusal}
+use Rattle.packet_chunks.specs.declared.Found.{Found}
 
 -- a chunk up to an end, and the place of what follows it; or no chunk any more
 pub data Spot : Type 0 where
@@ -23,8 +24,11 @@ spot end at (b ∷ bytes) = let size = front_size (b ∷ bytes) in chunk (at + s
 unfoldable pub step_at : List ℕ → ℕ → Told Spot
 step_at packet at = answer finished (first (place_checks packet at ++ left_checks (drop at packet))) (spot (length packet) at (drop at packet))
 
--- the number and the values of each case
-abbrev pub step_told : Step → Told Spot
-step_told (steps.Chunk f) = says none (chunk f.end f.next)
-step_told steps.End = says none finished
-step_told (steps.Refused k) = says (refuse k) finished
+-- a chunk that is found, or none
+abbrev pub spot_of : Option Found → Spot
+spot_of (Some f) = chunk f.end f.next
+spot_of None = finished
+
+-- what a step tells: its number, and what stands at the place
+abbrev pub step_told : Result (Option Found) Refusal → Told Spot
+step_told = answer_told finished spot_of

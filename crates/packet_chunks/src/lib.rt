@@ -4,7 +4,7 @@
 ghost use Rattle.std.specs.Prelude.{◌≡◌};
 ghost use Rattle.packet_chunks.specs.Chunks.{step_told, step_at};
 
-use packet_parts::Size;
+use refusal::Refusal;
 
 // A chunk goes up to end, and behind its padding next is the place of what follows.
 #[derive(Clone, Copy)]
@@ -13,39 +13,27 @@ pub struct Found {
     pub next: usize,
 }
 
-#[derive(Clone, Copy)]
-pub enum Step {
-    Chunk(Found),
-    End,
-    Refused(u8),
-}
-
-// The chunk at a place of the packet, whose first is 12.
-pub fn chunk_at(packet: &[u8], at: usize) -> Step
+// The chunk at a place of the packet, whose first is 12; none at its end.
+pub fn chunk_at(packet: &[u8], at: usize) -> Result<Option<Found>, Refusal>
     ensures { step_told result ≡ step_at packet.now at }
 {
     if at < 12 {
-        return Step::Refused(11);
+        return Err(Refusal::OutOfRange);
     }
     if packet.len() < at {
-        return Step::Refused(11);
+        return Err(Refusal::OutOfRange);
     }
     if packet.len() == at {
-        return Step::End;
+        return Ok(None);
     }
-    let size = packet_parts::chunk_size(&packet[at..]);
-    match size {
-        Size::Refused(k) => Step::Refused(k),
-        Size::Bytes(n) => {
-            let end = at + n as usize;
-            let next = at + packet_parts::padded_size(n);
-            if packet.len() < next {
-                return Step::Chunk(Found {
-                    end,
-                    next: packet.len(),
-                });
-            }
-            Step::Chunk(Found { end, next })
-        }
+    let size = packet_parts::chunk_size(&packet[at..])?;
+    let end = at + size as usize;
+    let next = at + packet_parts::padded_size(size);
+    if packet.len() < next {
+        return Ok(Some(Found {
+            end,
+            next: packet.len(),
+        }));
     }
+    Ok(Some(Found { end, next }))
 }

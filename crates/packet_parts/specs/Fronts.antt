@@ -1,11 +1,10 @@
 -- The chunk that bytes begin with: RFC 4960 section 3.2.
 -- Assumes nothing.
-use Rattle.std.specs.Prelude.{ℕ, ◌+◌, ◌*◌, ◌/◌, ◌≤◌, List, [], ◌∷◌, length, get_or}
-use Rattle.wire_model.specs.Refusal.{none, refuse, Check, first, Told, says, answer}
+use Rattle.std.specs.Prelude.{ℕ, ◌+◌, ◌*◌, ◌/◌, ◌≤◌, List, [], ◌∷◌, length, get_or, Result, Ok, Err}
+use Rattle.wire_model.specs.Refusal.{Check, first, Told, answer}
 use Rattle.chunk.specs.Layout.{Header, header}
 use Rattle.chunk.specs.Header.{header_checks}
-use Rattle.packet_parts.specs.declared.Size.{Size}
-use Rattle.packet_parts.specs.declared.Size.TheVariants as sizes
+use Rattle.refusal.specs.declared.Refusal.{Refusal}
 
 -- Chunk Type, Chunk Flags and Chunk Length, big-endian, where they stand
 unfoldable pub front_header : List ℕ → Header
@@ -23,18 +22,14 @@ abbrev pub left_checks : List ℕ → List Check
 left_checks [] = []
 left_checks (b ∷ bytes) = front_checks (b ∷ bytes)
 
--- the number and the value of each case: the chunk's byte count
-abbrev pub size_told : Size → Told ℕ
-size_told (sizes.Bytes n) = says none n
-size_told (sizes.Refused k) = says (refuse k) 0
-
+-- the byte count of the chunk, or what refuses it
 unfoldable pub size_read : List ℕ → Told ℕ
 size_read bytes = answer 0 (first (front_checks bytes)) (front_size bytes)
 
 -- where a size comes back the chunk has its header, and lies within what is lent
-abbrev pub SizeRoom : ℕ → Size → Type 0
-SizeRoom lent (sizes.Bytes n) = (4 ≤ n) × (n ≤ lent)
-SizeRoom lent (sizes.Refused k) = Unit {0}
+abbrev pub SizeRoom : ℕ → Result ℕ Refusal → Type 0
+SizeRoom lent (Ok n) = (4 ≤ n) × (n ≤ lent)
+SizeRoom lent (Err e) = Unit {0}
 
 -- "the length rounded up to 4"
 unfoldable pub rounded : ℕ → ℕ

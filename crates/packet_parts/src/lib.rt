@@ -4,26 +4,19 @@
 ghost use Rattle.std.specs.Prelude.{◌≡◌, length};
 ghost use Rattle.crc32c.specs.Crc.{little_endian};
 ghost use Rattle.wire_model.specs.BigEndian.{big_endian};
-ghost use Rattle.packet_parts.specs.Fronts.{size_told, size_read, SizeRoom, rounded};
+ghost use Rattle.refusal.specs.Told.{count_told};
+ghost use Rattle.packet_parts.specs.Fronts.{size_read, SizeRoom, rounded};
 
 use chunk::chunk_header;
-
-#[derive(Clone, Copy)]
-pub enum Size {
-    Bytes(u16),
-    Refused(u8),
-}
+use refusal::Refusal;
 
 // The byte count of the chunk that the lent bytes begin with, without padding.
-pub fn chunk_size(raw: &[u8]) -> Size
-    ensures result_value { size_told result ≡ size_read raw.now }
+pub fn chunk_size(raw: &[u8]) -> Result<u16, Refusal>
+    ensures result_value { count_told result ≡ size_read raw.now }
     ensures size_room { SizeRoom (length raw.now) result }
 {
-    let front = chunk_header::unmarshal(raw);
-    match front {
-        chunk_header::Unmarshalled::Refused(k) => Size::Refused(k),
-        chunk_header::Unmarshalled::Header(h) => Size::Bytes(h.length),
-    }
+    let front = chunk_header::unmarshal(raw)?;
+    Ok(front.length)
 }
 
 // The byte count with padding.

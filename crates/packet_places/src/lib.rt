@@ -4,20 +4,14 @@
 ghost use Rattle.std.specs.Prelude.{◌≡◌};
 ghost use Rattle.packet_places.specs.Walk.{lies, bytes_at, place_after};
 
-use packet_chunks::Step;
-
 // The bytes of the chunk at a place, as a part of the packet; empty where there is none.
 pub fn bytes_at(packet: &[u8], at: usize) -> &[u8]
     ensures { lies result ≡ bytes_at packet.entry at }
 {
-    let step = packet_chunks::chunk_at(packet, at);
-    match step {
-        Step::Refused(k) => &packet[..0],
-        Step::End => &packet[..0],
-        Step::Chunk(found) => {
-            let end = found.end;
-            &packet[at..end]
-        }
+    match packet_chunks::chunk_at(packet, at) {
+        Ok(Some(found)) => &packet[at..found.end],
+        Ok(None) => &packet[..0],
+        Err(_) => &packet[..0],
     }
 }
 
@@ -25,10 +19,9 @@ pub fn bytes_at(packet: &[u8], at: usize) -> &[u8]
 pub fn place_after(packet: &[u8], at: usize) -> usize
     ensures { result ≡ place_after packet.now at }
 {
-    let step = packet_chunks::chunk_at(packet, at);
-    match step {
-        Step::Refused(k) => at,
-        Step::End => at,
-        Step::Chunk(found) => found.next,
+    match packet_chunks::chunk_at(packet, at) {
+        Ok(Some(found)) => found.next,
+        Ok(None) => at,
+        Err(_) => at,
     }
 }

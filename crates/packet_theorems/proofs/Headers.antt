@@ -8,13 +8,15 @@ use borrow.Author.Tests.{le-ltb, eq-eqb}
 use lib.Dec.{ltb}
 use lib.ListN.{length, take, drop}
 use lib.Seq.{take_at, drop_at}
+use Rattle.std.specs.Prelude.{Result}
 use Rattle.wire_model.specs.BigEndian.{over}
 use Rattle.wire_model.specs.Refusal.{Refusal, none, refuse, first, says, Written, written, written_if, when}
+use Rattle.refusal.specs.declared.Refusal as reasons
 use Rattle.wire.proofs.Reading.{begins_with, none_both}
 use Rattle.packet_body.specs.Lent.{cut, cut_checks, lent_checks, joined, body}
 use Rattle.packet.specs.Layout.{Common, CommonFits, common_bytes, checksum, packet}
 use Rattle.packet.specs.Header.{Summed, CommonFront, common_told, common_read}
-use Rattle.packet.specs.declared.Unmarshalled.{Unmarshalled}
+use Rattle.packet.specs.declared.CommonHeader.{CommonHeader}
 use Rattle.packet_marshal.specs.Written.{packet_written}
 use Rattle.packet_marshal.proofs.Packets.{common-length, packet-length}
 
@@ -40,7 +42,7 @@ module _ (c : Common) (chunks : List ℕ) (fits : CommonFits c) where
   behind = drop_at (common_bytes c (checksum c chunks)) chunks 12 (common-length c (checksum c chunks))
 
   -- what meets the promise of `unmarshal` has the fields
-  pub packet-read-back : (r : Unmarshalled) → ((f : CommonFront (packet c chunks)) → common_told r ≡ common_read (packet c chunks) f.fields) → common_told r ≡ says none c
+  pub packet-read-back : (r : Result CommonHeader reasons.Refusal) → ((f : CommonFront (packet c chunks)) → common_told r ≡ common_read (packet c chunks) f.fields) → common_told r ≡ says none c
   unfolding packet-front common_read
   packet-read-back r promise =
       let long = packet-length c chunks in
@@ -66,7 +68,7 @@ packet-written c lent out e =
 
 -- so its header is read back
 pub written-read-back : (c : Common) → CommonFits c → (lent out : List ℕ) {n : ℕ} {out' : List ℕ} → written (says none n) out' ≡ packet_written c lent out
-    → (r : Unmarshalled) → ((f : CommonFront (take n out')) → common_told r ≡ common_read (take n out') f.fields) → common_told r ≡ says none c
+    → (r : Result CommonHeader reasons.Refusal) → ((f : CommonFront (take n out')) → common_told r ≡ common_read (take n out') f.fields) → common_told r ≡ says none c
 written-read-back c fits lent out {n} {out'} e r promise = packet-read-back c (body lent) fits r (rw (packet-written c lent out e).1 at promise)
 
 -- no chunk at all is a packet of 12 bytes

@@ -3,46 +3,43 @@
 use mathlib.Core.Path.{◌≡◌, refl, sym, ap, ◌∙◌}
 use mathlib.Core.List.{List}
 use Prim.Native.Nat.{ℕ}
-use Rattle.wire_model.specs.Refusal.{Refusal, none, refuse, Told}
+use Rattle.std.specs.Prelude.{Result, Option, Some, None}
+use Rattle.refusal.specs.declared.Refusal.{Refusal}
+use Rattle.refusal.proofs.Reasons.{answer_back, answer_inverse}
 use Rattle.wire.proofs.Exists.{Bytes}
-use Rattle.packet_chunks.specs.Chunks.{Spot, chunk, finished, step_at, step_told}
-use Rattle.packet_chunks.specs.declared.Step.{Step}
-use Rattle.packet_chunks.specs.declared.Step.TheVariants as steps
-use Rattle.packet.specs.Layout.{Common}
-use Rattle.packet.specs.Header.{CommonFront, common_told, common_read}
-use Rattle.packet.specs.declared.Unmarshalled.{Unmarshalled}
-use Rattle.packet.specs.declared.Unmarshalled.TheVariants as headers
+use Rattle.packet_chunks.specs.Chunks.{Spot, chunk, finished, spot_of, step_at, step_told}
+use Rattle.packet_chunks.specs.declared.Found.{Found}
+use Rattle.packet.specs.Layout.{Common, common}
+use Rattle.packet.specs.Header.{CommonFront, common_of, common_told, common_read}
+use Rattle.packet.specs.declared.CommonHeader.{CommonHeader}
 use Rattle.packet_theorems.proofs.Fronts.{common-some}
 
-step_back : Refusal → Spot → Step
-step_back (refuse k) s = steps.Refused k
-step_back none finished = steps.End
-step_back none (chunk end next) = steps.Chunk (record { end = end; next = next })
+spot_back : Spot → Option Found
+spot_back finished = None
+spot_back (chunk end next) = Some (record { end = end; next = next })
 
-step_inverse : (r : Step) → step_back (step_told r).refusal (step_told r).values ≡ r
-unfolding step_back
-step_inverse (steps.Chunk f) = refl
-step_inverse steps.End = refl
-step_inverse (steps.Refused k) = refl
+spot_known : (f : Option Found) → spot_back (spot_of f) ≡ f
+unfolding spot_back
+spot_known (Some f) = refl
+spot_known None = refl
 
-pub step-told-one : {r s : Step} → step_told r ≡ step_told s → r ≡ s
-step-told-one {r} {s} e = sym (step_inverse r) ∙ ap (λ (t : Told Spot). step_back t.refusal t.values) e ∙ step_inverse s
+pub step-told-one : {r s : Result (Option Found) Refusal} → step_told r ≡ step_told s → r ≡ s
+step-told-one {r} {s} e = sym (answer_inverse finished spot_of spot_back spot_known r) ∙ ap (answer_back spot_back) e ∙ answer_inverse finished spot_of spot_back spot_known s
 
-pub step-one : (packet : List ℕ) (at : ℕ) {r s : Step} → step_told r ≡ step_at packet at → step_told s ≡ step_at packet at → r ≡ s
+pub step-one : (packet : List ℕ) (at : ℕ) {r s : Result (Option Found) Refusal} → step_told r ≡ step_at packet at → step_told s ≡ step_at packet at → r ≡ s
 step-one packet at p q = step-told-one (p ∙ sym q)
 
-header-back : Refusal → Common → Unmarshalled
-header-back (refuse k) c = headers.Refused k
-header-back none c = headers.Header (record { source_port = c.source; destination_port = c.destination; verification_tag = c.tag })
+header-back : Common → CommonHeader
+header-back c = record { source_port = c.source; destination_port = c.destination; verification_tag = c.tag }
 
-header_inverse : (r : Unmarshalled) → header-back (common_told r).refusal (common_told r).values ≡ r
+header_known : (h : CommonHeader) → header-back (common_of h) ≡ h
 unfolding header-back
-header_inverse (headers.Header h) = refl
-header_inverse (headers.Refused k) = refl
+header_known h = refl
 
-pub header-told-one : {r s : Unmarshalled} → common_told r ≡ common_told s → r ≡ s
-header-told-one {r} {s} e = sym (header_inverse r) ∙ ap (λ (t : Told Common). header-back t.refusal t.values) e ∙ header_inverse s
+pub header-told-one : {r s : Result CommonHeader Refusal} → common_told r ≡ common_told s → r ≡ s
+header-told-one {r} {s} e =
+    sym (answer_inverse (common 0 0 0) common_of header-back header_known r) ∙ ap (answer_back header-back) e ∙ answer_inverse (common 0 0 0) common_of header-back header_known s
 
-pub header-one : (raw : List ℕ) → Bytes raw → {r s : Unmarshalled}
+pub header-one : (raw : List ℕ) → Bytes raw → {r s : Result CommonHeader Refusal}
     → ((f : CommonFront raw) → common_told r ≡ common_read raw f.fields) → ((f : CommonFront raw) → common_told s ≡ common_read raw f.fields) → r ≡ s
 header-one raw by p q = let f = common-some raw by in header-told-one (p f ∙ sym (q f))

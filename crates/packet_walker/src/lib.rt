@@ -5,8 +5,9 @@ ghost use Rattle.std.specs.Prelude.{◌≡◌};
 ghost use Rattle.packet_chunks.specs.Chunks.{step_told, step_at};
 ghost use Rattle.packet_places.specs.Walk.{lies, bytes_at, place_after};
 
-use packet_chunks::Step;
+use packet_chunks::Found;
 pub use packet_places::{bytes_at, place_after};
+use refusal::Refusal;
 
 #[derive(Clone, Copy)]
 pub struct Walker<'a> {
@@ -22,8 +23,8 @@ impl<'a> Walker<'a> {
         Walker { packet, place: 12 }
     }
 
-    // What stands at its place: a chunk, the end, or what is refused.
-    pub fn step(self) -> Step
+    // What stands at its place: a chunk, none at the end, or what is refused.
+    pub fn step(self) -> Result<Option<Found>, Refusal>
         ensures { step_told result ≡ step_at self.entry.packet.now self.entry.place }
     {
         packet_chunks::chunk_at(self.packet, self.place)

@@ -4,9 +4,10 @@
 ghost use Rattle.std.specs.Prelude.{◌≡◌, ◌*◌, length};
 ghost use Rattle.payload_model.specs.Limits.{tsns_most};
 ghost use Rattle.payload_model.specs.Queue.{queue_of, unsound, counted, is_empty, num_bytes};
-ghost use Rattle.payload_model.specs.Answers.{flag_told, number_told};
+ghost use Rattle.refusal.specs.Told.{flag_told, count_told};
 
-use payload_model::{Counts, Flag, LOG, Number, TSNS, WORDS};
+use payload_model::{Counts, LOG, TSNS, WORDS};
+use refusal::Refusal;
 
 // Refusal 0: a count above its table, or a byte count that is not the sum of the held lengths.
 pub fn unsound(counts: Counts, table: &[u32]) -> bool
@@ -25,31 +26,31 @@ pub fn unsound(counts: Counts, table: &[u32]) -> bool
 }
 
 // The sum of the held data lengths.
-pub fn get_num_bytes(counts: Counts, table: &[u32; WORDS]) -> Number
-    ensures { number_told result ≡ num_bytes (queue_of counts table.now) }
+pub fn get_num_bytes(counts: Counts, table: &[u32; WORDS]) -> Result<usize, Refusal>
+    ensures { count_told result ≡ num_bytes (queue_of counts table.now) }
 {
     if unsound(counts, table) {
-        return Number::Refused(0);
+        return Err(Refusal::Unsound);
     }
-    Number::Is(counts.n_bytes)
+    Ok(counts.n_bytes)
 }
 
 // How many TSNs are held.
-pub fn len(counts: Counts, table: &[u32; WORDS]) -> Number
-    ensures { number_told result ≡ counted (queue_of counts table.now) }
+pub fn len(counts: Counts, table: &[u32; WORDS]) -> Result<usize, Refusal>
+    ensures { count_told result ≡ counted (queue_of counts table.now) }
 {
     if unsound(counts, table) {
-        return Number::Refused(0);
+        return Err(Refusal::Unsound);
     }
-    Number::Is(counts.count)
+    Ok(counts.count)
 }
 
 // Whether none is held.
-pub fn is_empty(counts: Counts, table: &[u32; WORDS]) -> Flag
+pub fn is_empty(counts: Counts, table: &[u32; WORDS]) -> Result<bool, Refusal>
     ensures { flag_told result ≡ is_empty (queue_of counts table.now) }
 {
     if unsound(counts, table) {
-        return Flag::Refused(0);
+        return Err(Refusal::Unsound);
     }
-    Flag::Is(counts.count == 0)
+    Ok(counts.count == 0)
 }

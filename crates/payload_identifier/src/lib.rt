@@ -5,7 +5,7 @@ ghost use Rattle.std.specs.Prelude.{◌≡◌};
 ghost use Rattle.payload_identifier.specs.Identifier.{identifier_number, identifier_name};
 
 // What a payload identifier says of the user data: five have names. It is a reading of the number alone; what is kept and sent is the number.
-#[derive(Clone, Copy)]
+#[derive(Clone, Copy, Debug, PartialEq, Eq)]
 pub enum PayloadProtocolIdentifier {
     Dcep,
     String,
@@ -15,12 +15,12 @@ pub enum PayloadProtocolIdentifier {
     Unknown,
 }
 
-impl PayloadProtocolIdentifier {
-    // The name of a number; Unknown where it has none.
+// The name of a number; Unknown where it has none.
+impl From<u32> for PayloadProtocolIdentifier {
+    ghost from_gives = { λ v name. name ≡ identifier_name v };
+
     #[tactic(auto, unfolding(crate::specs::Identifier::identifier_name))]
-    pub fn from_u32(v: u32) -> Self
-        ensures { result ≡ identifier_name v }
-    {
+    fn from(v: u32) -> PayloadProtocolIdentifier {
         match v {
             50 => Self::Dcep,
             51 => Self::String,
@@ -30,18 +30,20 @@ impl PayloadProtocolIdentifier {
             _ => Self::Unknown,
         }
     }
+}
 
-    // The number of a name; 58 for Unknown.
-    pub fn to_u32(self) -> u32
-        ensures { result ≡ identifier_number self }
-    {
-        match self {
-            Self::Dcep => 50,
-            Self::String => 51,
-            Self::Binary => 53,
-            Self::StringEmpty => 56,
-            Self::BinaryEmpty => 57,
-            Self::Unknown => 58,
+// The number of a name; 58 for Unknown.
+impl From<PayloadProtocolIdentifier> for u32 {
+    ghost from_gives = { λ name v. v ≡ identifier_number name };
+
+    fn from(name: PayloadProtocolIdentifier) -> u32 {
+        match name {
+            PayloadProtocolIdentifier::Dcep => 50,
+            PayloadProtocolIdentifier::String => 51,
+            PayloadProtocolIdentifier::Binary => 53,
+            PayloadProtocolIdentifier::StringEmpty => 56,
+            PayloadProtocolIdentifier::BinaryEmpty => 57,
+            PayloadProtocolIdentifier::Unknown => 58,
         }
     }
 }

@@ -4,23 +4,25 @@
 ghost use Rattle.std.specs.Prelude.{◌≡◌};
 ghost use Rattle.payload_model.specs.Queue.{queue_of, got};
 ghost use Rattle.payload_model.specs.GapCall.{lists, gap_report};
-ghost use Rattle.payload_model.specs.Answers.{number_told, taken_told};
+ghost use Rattle.payload_model.specs.Answers.{taken_told};
+ghost use Rattle.refusal.specs.Told.{count_told};
 
-use payload_model::{Counts, Number, TSNS, Taken, WORDS};
+use payload_model::{Counts, Queued, TSNS, WORDS};
+use refusal::Refusal;
 
 // The chunk that is held with this TSN.
-pub fn get(counts: Counts, table: &[u32; WORDS], tsn: u32) -> Taken
+pub fn get(counts: Counts, table: &[u32; WORDS], tsn: u32) -> Result<Option<Queued>, Refusal>
     ensures { taken_told result ≡ got (queue_of counts table.now) tsn }
 {
     if payload_counts::unsound(counts, table) {
-        return Taken::Refused(0);
+        return Err(Refusal::Unsound);
     }
     let count = counts.count;
     let at = table_search::find_tsn(table, TSNS, 0, count, tsn);
     if count <= at {
-        return Taken::Nothing;
+        return Ok(None);
     }
-    Taken::Chunk(payload_record::chunk_of(table::row_at(table, TSNS, at)))
+    Ok(Some(payload_record::chunk_of(table::row_at(table, TSNS, at))))
 }
 
 // The gap report: starts and ends of its blocks go to the front of the lent lists, and their count is the answer; 10 where a list is too short.
@@ -30,16 +32,12 @@ pub fn get_gap_ack_blocks(
     cumulative: u32,
     starts: &mut [u16],
     ends: &mut [u16],
-) -> Number
-    ensures { lists (number_told result) starts.new ends.new ≡ gap_report (queue_of counts table.now) cumulative starts.old ends.old }
+) -> Result<usize, Refusal>
+    ensures { lists (count_told result) starts.new ends.new ≡ gap_report (queue_of counts table.now) cumulative starts.old ends.old }
 {
     if payload_counts::unsound(counts, table) {
-        return Number::Refused(0);
+        return Err(Refusal::Unsound);
     }
     let count = counts.count;
-    let told = gap_report::report(table, TSNS, count, cumulative, starts, ends);
-    match told {
-        gap_report::Reported::Count(n) => Number::Is(n),
-        gap_report::Reported::Short => Number::Refused(10),
-    }
+    gap_report::report(table, TSNS, count, cumulative, starts, ends)
 }

@@ -1,7 +1,7 @@
 -- Runs of calls from `new` on: the queue stays sound, its TSNs distinct and in the arc's order, and its gap report the only one possible.
 -- Assumes nothing.
 use mathlib.Core.Path.{◌≡◌, refl, sym, ap, ◌∙◌}
-use mathlib.Core.Bool.{cond, Bool, true, false, ◌||◌}
+use mathlib.Core.Bool.{cond, Bool, true, false, ◌||◌, ◌&&◌}
 use mathlib.Core.Logic.{◌↔◌, ◌⊎◌, inl, inr, ⊎_elim}
 use mathlib.Core.List.Memᴰ
 use mathlib.Core.List.{List, [], ◌∷◌, Memᴰ}
@@ -21,11 +21,10 @@ use Rattle.table.specs.declared.Row.{Row}
 use Rattle.table.proofs.Columns.{rows_long}
 use Rattle.payload_model.specs.Limits.{tsns_most, log_most}
 use Rattle.payload_model.specs.Queue.{Queue, held, unsound, After, Found, turned_away, logged, stored, pushed, left, stays_after, popped, popped_up_to, zeros, popped_duplicates, can_push, got, contains_stream, counted, is_empty, num_bytes, last_tsn}
-use Rattle.gap_model.specs.Gap.{block, extend, walk, starts_of, ends_of, blocks, reported, written}
+use Rattle.gap_model.specs.Gap.{Block, Report, block, extend, walk, starts_of, ends_of, blocks, written}
 use Rattle.gap_model.specs.Report.{InArc, Ordered}
-use Rattle.payload_model.specs.GapCall.{lists, report_told, gap_report}
-use Rattle.gap_model.specs.declared.Reported.{Reported}
-use Rattle.gap_model.specs.declared.Reported.TheVariants.{Count, Short}
+use Rattle.payload_model.specs.GapCall.{lists, gap_report}
+use Rattle.refusal.specs.Told.{count_told}
 use Rattle.payload_model.specs.Run.{Call, push, pop, pop_up_to, pop_duplicates, step, starts, ran, tsns_held, OnArc, OnArcs, Distinct, Sane, AllSane, OnlyReport}
 use Rattle.payload_model.proofs.Laws.{Sound, sound, either, kept_within, front-back}
 use Rattle.gap_model.proofs.Walk.{walk_more}
@@ -138,9 +137,10 @@ never k h e = let z : k ≡ 0 = cc in omega arith
 fine : none ≡ refuse 0 → ⊥
 fine e = let z : ◌≡◌ {A = ℕ} 0 1 = cc in omega arith
 
-sane_report : (a : Reported) → Sane (report_told a)
-sane_report (Count n) = fine
-sane_report Short = never 10 (omega arith)
+sane_report : (bs : List Block) (ss es : List ℕ) → Sane (count_told (written bs ss es).answer)
+unfolding written
+sane_report bs ss es =
+    by (λ (r : Report). Sane (count_told r.answer)) (leb (length bs) (length ss) && leb (length bs) (length es)) _ _ (λ _. fine) (λ _. never 10 (omega arith))
 
 all_sane : (q : Queue) → unsound q ≡ false → AllSane q
 unfolding pushed can_push popped popped_up_to popped_duplicates got contains_stream counted is_empty num_bytes last_tsn gap_report
@@ -163,7 +163,7 @@ all_sane q e =
       is_empty = rw e fine;
       num_bytes = rw e fine;
       last_tsn = rw e (by Sane (eqb q.count 0) _ _ (λ _. fine) (λ _. fine));
-      gap_report = λ cumulative ss es. rw e (sane_report (reported (held q) cumulative ss es).answer);
+      gap_report = λ cumulative ss es. rw e (sane_report (blocks cumulative (tsns_held q)) ss es);
     }
 
 -- the report's answer, its lists long enough

@@ -1,48 +1,40 @@
--- The number and the values of each case of each answer.
+-- The number and the values of each answer.
 -- Assumes nothing.
-use Rattle.std.specs.Prelude.{ℕ, Bool, true, false, List}
-use Rattle.wire_model.specs.Refusal.{none, refuse, Told, says}
+use Rattle.std.specs.Prelude.{ℕ, Bool, true, false, Option, Some, None, Result}
+use Rattle.wire_model.specs.Refusal.{Told}
+use Rattle.refusal.specs.declared.Refusal.{Refusal}
+use Rattle.refusal.specs.Told.{answer_told}
 use Rattle.data_fields.specs.Fields.{data_held}
 use Rattle.payload_model.specs.Queue.{Found, nothing, Last, Handed, zeros}
 use Rattle.payload_model.specs.declared.Queued.{Queued}
-use Rattle.payload_model.specs.declared.Flag.{Flag}
-use Rattle.payload_model.specs.declared.Flag.TheVariants as flags
-use Rattle.payload_model.specs.declared.Number.{Number}
-use Rattle.payload_model.specs.declared.Number.TheVariants as numbers
-use Rattle.payload_model.specs.declared.Taken.{Taken}
-use Rattle.payload_model.specs.declared.Taken.TheVariants as chunks
-use Rattle.payload_model.specs.declared.LastTsn.{LastTsn}
-use Rattle.payload_model.specs.declared.LastTsn.TheVariants as lasts
-use Rattle.payload_model.specs.declared.Done.{Done}
-use Rattle.payload_model.specs.declared.Done.TheVariants as dones
+use Rattle.payload_model.specs.declared.Duplicates.{Duplicates}
 
-abbrev pub flag_told : Flag → Told Bool
-flag_told (flags.Is b) = says none b
-flag_told (flags.Refused k) = says (refuse k) false
-
-abbrev pub number_told : Number → Told ℕ
-number_told (numbers.Is n) = says none n
-number_told (numbers.Refused k) = says (refuse k) 0
-
+-- what is said of a chunk that was found
 unfoldable pub queued_found : Queued → Found
 queued_found q = record { found = true; values = data_held q.chunk; size = q.size }
 
-abbrev pub taken_told : Taken → Told Found
-taken_told (chunks.Chunk q) = says none (queued_found q)
-taken_told chunks.Nothing = says none nothing
-taken_told (chunks.Refused k) = says (refuse k) nothing
+-- of a chunk that may not be there
+abbrev pub chunk_found : Option Queued → Found
+chunk_found (Some q) = queued_found q
+chunk_found None = nothing
 
-abbrev pub last_told : LastTsn → Told Last
-last_told (lasts.Tsn t) = says none (record { found = true; tsn = t })
-last_told lasts.Nothing = says none (record { found = false; tsn = 0 })
-last_told (lasts.Refused k) = says (refuse k) (record { found = false; tsn = 0 })
+-- of a TSN that may not be there
+abbrev pub last_found : Option ℕ → Last
+last_found (Some t) = record { found = true; tsn = t }
+last_found None = record { found = false; tsn = 0 }
+
+-- a chunk, or that there is none
+abbrev pub taken_told : Result (Option Queued) Refusal → Told Found
+taken_told = answer_told nothing chunk_found
+
+-- a TSN, or that there is none
+abbrev pub last_told : Result (Option ℕ) Refusal → Told Last
+last_told = answer_told (record { found = false; tsn = 0 }) last_found
 
 -- true where it was done
-abbrev pub done_told : Done → Told Bool
-done_told dones.All = says none true
-done_told (dones.Refused k) = says (refuse k) false
+abbrev pub done_told : Result (Unit {0}) Refusal → Told Bool
+done_told = answer_told false (λ _. true)
 
--- the count beside the array of all places
-abbrev pub handed_told : Number → List ℕ → Told Handed
-handed_told (numbers.Is n) tsns = says none (record { count = n; tsns = tsns })
-handed_told (numbers.Refused k) tsns = says (refuse k) (record { count = 0; tsns = tsns })
+-- the count beside the array of all places; refused, all places 0
+abbrev pub handed_told : Result Duplicates Refusal → Told Handed
+handed_told = answer_told (record { count = 0; tsns = zeros }) (λ (d : Duplicates). record { count = d.count; tsns = d.tsns })

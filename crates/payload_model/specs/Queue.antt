@@ -4,7 +4,6 @@ use Rattle.std.specs.Prelude.{ℕ, ◌+◌, ◌-◌, ◌*◌, ◌/◌, ◌%◌, 
 use Rattle.wire_model.specs.BigEndian.{over}
 use Rattle.wire_model.specs.Refusal.{none, refuse, Told, says}
 use Rattle.serial_model.specs.Serial.{at_or_before, opposite}
-use Rattle.data_fields.specs.Fields.{Data}
 use Rattle.data_fields.specs.Fields.{DataValues, no_data, data_shown, data_flags, data_sent}
 use Rattle.data_fields.specs.declared.ChunkPayloadData.{ChunkPayloadData}
 use Rattle.moves_model.specs.Lists.{put}

@@ -1,5 +1,5 @@
-// The state of the TSN queue and every call's answer. What the calls do with them is defined in specs/, and theorems over whole runs of calls
-// stand in proofs/. The calls of crate `payload_queue` take and give the same counts.
+// The state of the TSN queue and what its calls give. What the calls do with it is defined in specs/, and theorems over whole runs of calls
+// stand in proofs/.
 #![tactic(auto)]
 
 use data_fields::ChunkPayloadData;
@@ -28,60 +28,9 @@ pub struct Queued {
     pub size: u16,
 }
 
-#[derive(Clone, Copy)]
-pub enum Flag {
-    Is(bool),
-    Refused(u8),
-}
-
-#[derive(Clone, Copy)]
-pub enum Number {
-    Is(usize),
-    Refused(u8),
-}
-
-#[derive(Clone, Copy)]
-pub enum Taken {
-    Chunk(Queued),
-    Nothing,
-    Refused(u8),
-}
-
-#[derive(Clone, Copy)]
-pub enum LastTsn {
-    Tsn(u32),
-    Nothing,
-    Refused(u8),
-}
-
-#[derive(Clone, Copy)]
-pub enum Done {
-    All,
-    Refused(u8),
-}
-
-#[derive(Clone, Copy)]
-pub struct Pushed {
-    pub answer: Flag,
-    pub queue: Counts,
-}
-
-#[derive(Clone, Copy)]
-pub struct Popped {
-    pub answer: Taken,
-    pub queue: Counts,
-}
-
-#[derive(Clone, Copy)]
-pub struct Dropped {
-    pub answer: Done,
-    pub queue: Counts,
-}
-
-// All places of the log, unused ones 0, beside their count.
+// The log as it is handed out: all its places, unused ones 0, beside their count.
 #[derive(Clone, Copy)]
 pub struct Duplicates {
-    pub answer: Number,
+    pub count: usize,
     pub tsns: [u32; LOG],
-    pub queue: Counts,
 }

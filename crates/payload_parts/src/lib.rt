@@ -15,11 +15,7 @@ pub fn handed(log: [u32; LOG], n: usize) -> [u32; LOG]
     ensures { result ≡ over zeros (take n log) }
 {
     let mut out = [0u32; LOG];
-    let mut i: usize = 0;
-    while i < n {
-        out[i] = log[i];
-        i += 1;
-    }
+    out[..n].copy_from_slice(&log[..n]);
     out
 }
 
@@ -31,10 +27,8 @@ pub fn keep_after(table: &mut [u32], n: usize, tsn: u32) -> usize
     ensures table_after { rows_of tsns_most table.new ≡ over (rows_of tsns_most table.old) (kept (stays_after tsn) (take n (rows_of tsns_most table.old))) }
 {
     let mut left: usize = 0;
-    let mut i: usize = 0;
-    while i < n {
+    for i in 0..n {
         let row = table::row_at(table, TSNS, i);
-        i += 1;
         if !serial_tsns::sna32lte(row.tsn, tsn) {
             table_put::set_row(table, TSNS, left, row);
             left += 1;
@@ -43,16 +37,13 @@ pub fn keep_after(table: &mut [u32], n: usize, tsn: u32) -> usize
     left
 }
 
-// The queue with a TSN logged, where the log has room.
-pub fn logged(counts: Counts, tsn: u32) -> Counts
-    ensures { (ws : List ℕ) → queue_of result ws ≡ logged (queue_of counts ws) tsn }
+// Logs a TSN, where the log has room.
+pub fn log_tsn(counts: &mut Counts, tsn: u32)
+    ensures { (ws : List ℕ) → queue_of counts.new ws ≡ logged (queue_of counts.old ws) tsn }
 {
     let at = counts.dups;
-    if LOG <= at {
-        return counts;
+    if at < LOG {
+        counts.dup_tsn[at] = tsn;
+        counts.dups = at + 1;
     }
-    let mut queue = counts;
-    queue.dup_tsn[at] = tsn;
-    queue.dups = at + 1;
-    queue
 }

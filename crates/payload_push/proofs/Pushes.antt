@@ -2,6 +2,7 @@
 -- Assumes nothing.
 use mathlib.Core.Path.{◌≡◌}
 use mathlib.Core.Bool.{true, false, or-true}
+use mathlib.Core.Logic.{◌⊎◌, inl, inr}
 use Prim.Native.Nat.{ℕ, ◌^◌, ◌<◌, ◌≤◌}
 use borrow.Author.Tests.{le-leb, lt-leb}
 use Rattle.wire_model.specs.Refusal.{none, refuse, says}
@@ -24,13 +25,12 @@ module _ (q : Queue) (r : Row) (cumulative : ℕ) (ok : unsound q ≡ false) whe
     old-is = at_or_before-told 31 r.tsn cumulative fits fits'
 
     -- earlier, or the same: old
-    pub push_earlier : compared 32 r.tsn cumulative ≡ Earlier → pushed q r cumulative ≡ after (says none false) (logged q r.tsn)
+    pub push_old :
+        (compared 32 r.tsn cumulative ≡ Earlier) ⊎ (compared 32 r.tsn cumulative ≡ Same) →
+        pushed q r cumulative ≡ after (says none false) (logged q r.tsn)
     unfolding pushed turned_away
-    push_earlier e = rw (ok, old-is, e, or-true (some (has_tsn r.tsn) (held q)))
-
-    pub push-same : compared 32 r.tsn cumulative ≡ Same → pushed q r cumulative ≡ after (says none false) (logged q r.tsn)
-    unfolding pushed turned_away
-    push-same e = rw (ok, old-is, e, or-true (some (has_tsn r.tsn) (held q)))
+    push_old (inl e) = rw (ok, old-is, e, or-true (some (has_tsn r.tsn) (held q)))
+    push_old (inr e) = rw (ok, old-is, e, or-true (some (has_tsn r.tsn) (held q)))
 
     -- later: by what is held, and whether there is room
     module _ (later : compared 32 r.tsn cumulative ≡ Later) where

@@ -1,12 +1,15 @@
--- The number and the values of each case of the answer.
+-- The number and the values of each answer.
 -- Assumes nothing.
-use Rattle.std.specs.Prelude.{true, false}
-use Rattle.wire_model.specs.Refusal.{none, refuse, Told, says}
+use Rattle.std.specs.Prelude.{ℕ, true, false, Option, Some, None, Result}
+use Rattle.wire_model.specs.Refusal.{Told}
+use Rattle.refusal.specs.declared.Refusal.{Refusal}
+use Rattle.refusal.specs.Told.{answer_told}
 use Rattle.set_reach.specs.Applicable.{Found}
-use Rattle.reassembly_applicable.specs.declared.Applicable.{Applicable}
-use Rattle.reassembly_applicable.specs.declared.Applicable.TheVariants as answers
 
-abbrev pub applicable_told : Applicable → Told Found
-applicable_told (answers.Ssn n) = says none (record { found = true; ssn = n })
-applicable_told answers.Nothing = says none (record { found = false; ssn = 0 })
-applicable_told (answers.Refused k) = says (refuse k) (record { found = false; ssn = 0 })
+-- of an SSN that may not be there
+abbrev pub ssn_found : Option ℕ → Found
+ssn_found (Some n) = record { found = true; ssn = n }
+ssn_found None = record { found = false; ssn = 0 }
+
+abbrev pub applicable_told : Result (Option ℕ) Refusal → Told Found
+applicable_told = answer_told (record { found = false; ssn = 0 }) ssn_found

@@ -7,9 +7,8 @@ ghost use Rattle.fragment_sets.specs.Sets.{sets};
 ghost use Rattle.set_reach.specs.Kept.{ssns_of, highest};
 ghost use Rattle.reassembly_state.specs.Limits.{frags_most};
 ghost use Rattle.set_reach.specs.Applicable.{ends_part, found_in};
-ghost use Rattle.reassembly_applicable.specs.Answers.{applicable_told};
+ghost use Rattle.reassembly_applicable.specs.Answers.{ssn_found};
 
-use crate::Applicable;
 use reassembly_state::FRAGMENTS;
 
 // The highest SSN of the sets that may end a part.
@@ -21,14 +20,15 @@ pub fn highest_part(
     last_ssn: u16,
     tsn: u32,
     peer_last_tsn: u32,
-) -> Applicable
+) -> Option<u16>
     requires table_len { length table.now ≡ 4 * frags_most }
     requires n_bound { from + n ≤ frags_most }
-    ensures { applicable_told result ≡ says none (found_in (highest 16 (ssns_of (ends_part expected last_ssn tsn peer_last_tsn) (sets (map bare (take n (drop from (rows_of frags_most table.now)))))))) }
+    ensures { says none (ssn_found result) ≡ says none (found_in (highest 16 (ssns_of (ends_part expected last_ssn tsn peer_last_tsn) (sets (map bare (take n (drop from (rows_of frags_most table.now)))))))) }
 {
     let mut found = false;
     let mut highest: u16 = 0;
     let mut i: usize = 0;
+    // From set to set: how far a turn goes, k rows, no range can say, and an iterator of sets would be no plainer.
     while i < n {
         let at = from + i;
         let k = set_reach::set_at(table, FRAGMENTS, at, n - i);
@@ -40,7 +40,7 @@ pub fn highest_part(
         }
     }
     if found {
-        return Applicable::Ssn(highest);
+        return Some(highest);
     }
-    Applicable::Nothing
+    None
 }

@@ -1,7 +1,7 @@
 -- Storing an ordered fragment: its set among the rows, its place among all that is held, and what is complete after it.
 -- Assumes nothing.
 use mathlib.Core.Path.{◌≡◌, refl, sym, ap, ◌∙◌}
-use mathlib.Core.Bool.{Bool, true, false, not, ◌||◌, ◌&&◌, cond, true≢false}
+use mathlib.Core.Bool.{Bool, true, false, not, ◌||◌, ◌&&◌, cond}
 use mathlib.Core.List.{List, [], ◌∷◌, ◌++◌, map}
 use Prim.Native.Nat.{ℕ, suc, ◌+◌, ◌-◌, ◌≤◌, ◌<◌}
 use native.Mathlib.Omega.{arith}
@@ -27,12 +27,10 @@ use Rattle.fragments.proofs.Seen.{any-cut}
 use Rattle.fragment_sets.proofs.Seen.{ahead_of_set, rows_of_set, set-cut, stored-set, stored-fresh, grown-cut, complete-cut}
 use Rattle.fragment_sets.proofs.Complete.{segment-rest}
 use Rattle.reassembly_state.specs.Limits.{frags_most}
-use Rattle.chunks.specs.Message.{flag_told}
 use Rattle.reassembly_state.specs.Model.{held, with_ordered, gives, keep_ordered, push_ordered}
-use Rattle.reassembly_state.specs.State.{State, count, fragments, view, counts, lay, After, after, laid, fragment_of}
-use Rattle.reassembly_state.specs.Rows.{first_ordered, ordered_rows, set_at, set_run, Asks}
+use Rattle.reassembly_state.specs.State.{State, count, fragments, view, counts, lay, after, laid, fragment_of}
+use Rattle.reassembly_state.specs.Rows.{first_ordered, ordered_rows, set_at, set_run, Declines, Keeps}
 use Rattle.reassembly_state.specs.declared.Counts.{Counts}
-use Rattle.chunks.specs.declared.Flag.{Flag}
 use Rattle.reassembly_state.proofs.Parts.{drop-take, put-length, put_last}
 use Rattle.reassembly_state.proofs.Chunk.{chunk_row, chunk-begins, chunk-ends, chunk-ssn, chunk-tsn, chunk_bytes, chunk_flags, chunk-frag}
 use Rattle.reassembly_state.proofs.Laws.{Sound, segment-cut, segment_fits, ordered-cut, held-view, finished-length, unordered-length, ordered-length, fragments-length, size-held, lay-own}
@@ -328,44 +326,28 @@ module _ (s : State) (k : Sound s) (full : length s.rows ≡ frags_most) where
       abbrev again : Bool
       again = some (of_row (has_tsn p.tsn)) (take run (drop at s.rows))
 
-      abbrev Asked : Told Bool → Bool → Type 0
-      Asked told keep = Asks s room p more told keep at run
-
-      -- not kept, with what is told
-      refused : {told : Told Bool} → ((bytes : List ℕ) → length bytes ≡ more → push_ordered room (view s) (fragment_of p bytes) ≡ gives told (view s)) → Asked told false
-      refused is = record { at-is = at-is; run_is = run_is; with_room = λ e. absurd (true≢false (sym e)); is = is }
-
-      pub asks_large : large ≡ true → Asked (says (refuse 6) false) false
-      asks_large a = refused (λ bytes e. push-is room bytes at-is run_is ∙ rw (e, a))
+      pub asks_large : large ≡ true → Declines s room p more (says (refuse 6) false)
+      asks_large a = λ bytes e. push-is room bytes at-is run_is ∙ rw (e, a)
 
       module _ (a : large ≡ false) where
-        pub asks_old : old ≡ true → Asked (says none false) false
-        asks_old b = refused (λ bytes e. push-is room bytes at-is run_is ∙ rw (e, a, b))
+        pub asks_old : old ≡ true → Declines s room p more (says none false)
+        asks_old b = λ bytes e. push-is room bytes at-is run_is ∙ rw (e, a, b)
 
         module _ (b : old ≡ false) where
-          pub asks_again : again ≡ true → Asked (says none false) false
-          asks_again c = refused (λ bytes e. push-is room bytes at-is run_is ∙ rw (e, a, b, c))
+          pub asks_again : again ≡ true → Declines s room p more (says none false)
+          asks_again c = λ bytes e. push-is room bytes at-is run_is ∙ rw (e, a, b, c)
 
           module _ (c : again ≡ false) where
-            pub asks_crowded : room ≡ false → Asked (says (refuse 8) false) false
-            asks_crowded d = refused (λ bytes e. push-is room bytes at-is run_is ∙ rw (e, a, b, c, d))
+            pub asks_crowded : room ≡ false → Declines s room p more (says (refuse 8) false)
+            asks_crowded d = λ bytes e. push-is room bytes at-is run_is ∙ rw (e, a, b, c, d)
 
-            pub asks_kept : room ≡ true → Asked (says none false) true
-            asks_kept d = record { at-is = at-is; run_is = run_is; with_room = λ e. d; is = λ bytes e. push-is room bytes at-is run_is ∙ rw (e, a, b, c, d) }
+            pub asks_kept : room ≡ true → Keeps s room p more at run
+            asks_kept d = record { at-is = at-is; run_is = run_is; with_room = d; is = λ bytes e. push-is room bytes at-is run_is ∙ rw (e, a, b, c, d) }
 
--- the questions' answer, put together
-pub told_so : {s : State} {room : Bool} {p : ChunkPayloadData} {more : ℕ} {a b : Flag} {x y : Bool} {i j m n : ℕ} → (a ≡ b) × ((x ≡ y) × ((i ≡ j) × (m ≡ n)))
-    → Asks s room p more (flag_told b) y j n → Asks s room p more (flag_told a) x i m
-told_so e k = rw (e.0, e.1.0, e.1.1.0, e.1.1.1) k
+pub asked-stays : (s : State) → Sound s → length s.rows ≡ frags_most → (room : Bool) (p : ChunkPayloadData) (bytes : List ℕ) {told : Told Bool}
+    → Declines s room p (length bytes) told → after told s ≡ laid s (push_ordered room (view s) (fragment_of p bytes))
+asked-stays s k full room p bytes a = rw (a bytes refl, lay-own s k full)
 
-pub asked-stays : (s : State) → Sound s → length s.rows ≡ frags_most → {room : Bool} (p : ChunkPayloadData) (bytes : List ℕ) {told : Told Bool} {keep : Bool} {at run : ℕ}
-    → Asks s room p (length bytes) told keep at run → keep ≡ false → after told s ≡ laid s (push_ordered room (view s) (fragment_of p bytes))
-asked-stays s k full p bytes a e = rw (a.is bytes refl, e, lay-own s k full)
-
-pub asked-keeps : (s : State) {room : Bool} (p : ChunkPayloadData) (bytes : List ℕ) {told : Told Bool} {keep : Bool} {at run : ℕ}
-    → Asks s room p (length bytes) told keep at run → keep ≡ true → laid s (keep_ordered (view s) (fragment_of p bytes)) ≡ laid s (push_ordered room (view s) (fragment_of p bytes))
-asked-keeps s p bytes a e = rw (a.is bytes refl, e)
-
--- the answer of a push that changes nothing
-pub stays : (s : State) {a b : Flag} {q : Counts} → (a ≡ b) × (q ≡ s.queue) → ◌≡◌ {A = After Bool} (after (flag_told a) (record { queue = q; rows = s.rows; pool = s.pool })) (after (flag_told b) s)
-stays s e = rw (e.0, e.1)
+pub asked-keeps : (s : State) {room : Bool} (p : ChunkPayloadData) (bytes : List ℕ) {at run : ℕ}
+    → Keeps s room p (length bytes) at run → laid s (keep_ordered (view s) (fragment_of p bytes)) ≡ laid s (push_ordered room (view s) (fragment_of p bytes))
+asked-keeps s p bytes a = rw (a.is bytes refl)

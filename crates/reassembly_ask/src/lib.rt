@@ -5,14 +5,13 @@ ghost use Rattle.std.specs.Prelude.{◌≡◌, false, List, ℕ, ◌+◌, ◌*�
 ghost use Rattle.table.specs.Rows.{rows_of, total};
 ghost use Rattle.fragments.specs.Frag.{long_length};
 ghost use Rattle.reassembly_state.specs.Limits.{frags_most};
-ghost use Rattle.chunks.specs.Message.{flag_told};
 ghost use Rattle.reassembly_state.specs.State.{state_of, unsound, count};
-ghost use Rattle.reassembly_state.specs.Rows.{Asks};
+ghost use Rattle.reassembly_ask.specs.Asked.{Asked};
 
-use chunks::Flag;
 use data_fields::ChunkPayloadData;
 use reassembly_parts::room;
 use reassembly_state::{Counts, FRAGMENTS};
+use refusal::Refusal;
 
 // Whether the set of run rows at index at is above the maximum with so many bytes more. Where all that is held is not, it is not.
 fn too_large(queue: Counts, table: &[u32], at: usize, run: usize, more: usize) -> bool
@@ -29,33 +28,26 @@ fn too_large(queue: Counts, table: &[u32], at: usize, run: usize, more: usize) -
     room::above(queue.max_message_size, size, more)
 }
 
-// What an ordered push is answered, and whether it is kept; where its set stands, and how many rows that has, 0 where there is none.
+// Where the set of a chunk stands, and how many rows it has, 0 where there is none.
 #[derive(Clone, Copy)]
-pub struct Asked {
-    pub answer: Flag,
-    pub keep: bool,
+pub struct SetRows {
     pub at: usize,
     pub run: usize,
 }
 
-fn answered(answer: Flag, keep: bool, at: usize, run: usize) -> Asked
-    ensures { (result.answer ≡ answer) × ((result.keep ≡ keep) × ((result.at ≡ at) × (result.run ≡ run))) }
-{
-    Asked {
-        answer,
-        keep,
-        at,
-        run,
-    }
-}
-
-// The questions of a push of so many bytes in document 01's order; whether there is room the caller says. Where it is kept, what it is answered only
-// `keep` can say.
-pub fn ask(queue: Counts, table: &[u32], chunk: ChunkPayloadData, more: usize, room: bool) -> Asked
+// The questions of a push of so many bytes in document 01's order; whether there is room the caller says. Where it is kept its set is answered, and what it is told
+// only `keep` can say; where nothing is kept, and it is not refused, it is told false.
+pub fn ask(
+    queue: Counts,
+    table: &[u32],
+    chunk: ChunkPayloadData,
+    more: usize,
+    room: bool,
+) -> Result<Option<SetRows>, Refusal>
     requires table_len { length table.now ≡ 4 * frags_most }
     requires queue_bound { count queue ≤ frags_most }
     requires table_value { total long_length (take (count queue) (rows_of frags_most table.now)) ≡ queue.n_bytes }
-    ensures { (pool : List ℕ) → unsound (state_of queue table.now pool) ≡ false → Asks (state_of queue table.now pool) room chunk more (flag_told result.answer) result.keep result.at result.run }
+    ensures { (pool : List ℕ) → unsound (state_of queue table.now pool) ≡ false → Asked (state_of queue table.now pool) room chunk more result }
 {
     let ssn = chunk.stream_sequence_number;
     let from = queue.finished + queue.unordered;
@@ -63,16 +55,16 @@ pub fn ask(queue: Counts, table: &[u32], chunk: ChunkPayloadData, more: usize, r
     let at = from + ahead;
     let run = fragment_sets::pass_ssn(table, FRAGMENTS, at, queue.ordered - ahead, ssn);
     if too_large(queue, table, at, run, more) {
-        return answered(Flag::Refused(6), false, at, run);
+        return Err(Refusal::MessageTooLarge);
     }
     if serial_ssns::sna16lt(ssn, queue.next_ssn) {
-        return answered(Flag::Is(false), false, at, run);
+        return Ok(None);
     }
     if table_search::has_tsn(table, FRAGMENTS, at, run, chunk.tsn) {
-        return answered(Flag::Is(false), false, at, run);
+        return Ok(None);
     }
     if !room {
-        return answered(Flag::Refused(8), false, at, run);
+        return Err(Refusal::NoRoom);
     }
-    answered(Flag::Is(false), true, at, run)
+    Ok(Some(SetRows { at, run }))
 }

@@ -31,18 +31,18 @@ fn passed_over(table: &[u32], at: usize, k: usize, last_ssn: u16, bounded: bool,
     set_reach::is_missing_tsn_at_or_before(table, FRAGMENTS, at, k, tsn)
 }
 
-// The queue without these sets: those that stay move down, one by one.
+// Drops these sets: those that stay move down, one by one.
 pub fn drop_sets(
-    queue: Counts,
+    queue: &mut Counts,
     table: &mut [u32],
     pool: &mut [u8],
     last_ssn: u16,
     bounded: bool,
     tsn: u32,
-) -> Counts
+)
     requires table_len { length table.old ≡ 4 * frags_most }
-    requires pool_value { unsound (state_of queue table.old pool.old) ≡ false }
-    ensures { state_of result table.new pool.new ≡ lay (with_ordered (view (state_of queue table.old pool.old)) (stays (dropped last_ssn bounded tsn) (view (state_of queue table.old pool.old)).ordered)) (state_of queue table.old pool.old) }
+    requires pool_value { unsound (state_of queue.old table.old pool.old) ≡ false }
+    ensures { state_of queue.new table.new pool.new ≡ lay (with_ordered (view (state_of queue.old table.old pool.old)) (stays (dropped last_ssn bounded tsn) (view (state_of queue.old table.old pool.old)).ordered)) (state_of queue.old table.old pool.old) }
 {
     let from = queue.finished + queue.unordered;
     let held = from + queue.ordered;
@@ -50,6 +50,7 @@ pub fn drop_sets(
     let mut off = fragments::sum_long(table, FRAGMENTS, 0, from);
     let mut kept = at;
     let mut bytes = off;
+    // From set to set: how far a turn goes, k rows, no range can say, and an iterator of sets would be no plainer.
     while at < held {
         let first = at;
         let place = off;
@@ -63,8 +64,6 @@ pub fn drop_sets(
             bytes += size;
         }
     }
-    let mut left = queue;
-    left.ordered = kept - from;
-    left.n_bytes = bytes;
-    left
+    queue.ordered = kept - from;
+    queue.n_bytes = bytes;
 }

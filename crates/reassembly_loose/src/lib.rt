@@ -3,28 +3,27 @@
 
 ghost use Rattle.std.specs.Prelude.{◌≡◌, false, ◌+◌, ◌*◌, ◌≤◌, ◌<◌, length};
 ghost use Rattle.reassembly_state.specs.Limits.{frags_most, bytes_most};
-ghost use Rattle.chunks.specs.Message.{flag_told};
+ghost use Rattle.wire_model.specs.Refusal.{none, says};
 ghost use Rattle.reassembly_state.specs.State.{state_of, unsound, count, view, lay, after, laid, fragment_of};
 ghost use Rattle.reassembly_state.specs.Rows.{stored_loose, settled};
 
-use chunks::Flag;
 use data_fields::ChunkPayloadData;
-use reassembly_parts::{record, room};
-use reassembly_state::{Counts, FRAGMENTS, Pushed};
+use reassembly_parts::record;
+use reassembly_state::{Counts, FRAGMENTS};
 
 // A loose fragment stored at its place by TSN.
 pub fn store_loose(
-    queue: Counts,
+    queue: &mut Counts,
     table: &mut [u32],
     pool: &mut [u8],
     chunk: ChunkPayloadData,
     user_data: &[u8],
-) -> Counts
+)
     requires table_len { length table.old ≡ 4 * frags_most }
-    requires pool_value { unsound (state_of queue table.old pool.old) ≡ false }
-    requires queue_bound { count queue < frags_most }
-    requires user_data_bound { queue.n_bytes + length user_data.now ≤ bytes_most }
-    ensures { state_of result table.new pool.new ≡ lay (stored_loose (view (state_of queue table.old pool.old)) (fragment_of chunk user_data.now)) (state_of queue table.old pool.old) }
+    requires pool_value { unsound (state_of queue.old table.old pool.old) ≡ false }
+    requires queue_bound { count queue.old < frags_most }
+    requires user_data_bound { queue.old.n_bytes + length user_data.now ≤ bytes_most }
+    ensures { state_of queue.new table.new pool.new ≡ lay (stored_loose (view (state_of queue.old table.old pool.old)) (fragment_of chunk user_data.now)) (state_of queue.old table.old pool.old) }
 {
     let more = user_data.len();
     let row = record::row_of(chunk, more);
@@ -42,17 +41,15 @@ pub fn store_loose(
         row,
         user_data,
     );
-    let mut grown = queue;
-    grown.unordered = loose + 1;
-    grown.n_bytes = grown.n_bytes + more;
-    grown
+    queue.unordered = loose + 1;
+    queue.n_bytes += more;
 }
 
-// One scan: the first whole message goes to the finished ones.
-pub fn settle(queue: Counts, table: &mut [u32], pool: &mut [u8]) -> Pushed
+// One scan: the first whole message goes to the finished ones; whether there is one.
+pub fn settle(queue: &mut Counts, table: &mut [u32], pool: &mut [u8]) -> bool
     requires table_len { length table.old ≡ 4 * frags_most }
-    requires pool_value { unsound (state_of queue table.old pool.old) ≡ false }
-    ensures { after (flag_told result.answer) (state_of result.queue table.new pool.new) ≡ laid (state_of queue table.old pool.old) (settled (view (state_of queue table.old pool.old))) }
+    requires pool_value { unsound (state_of queue.old table.old pool.old) ≡ false }
+    ensures { after (says none result) (state_of queue.new table.new pool.new) ≡ laid (state_of queue.old table.old pool.old) (settled (view (state_of queue.old table.old pool.old))) }
 {
     let from = queue.finished;
     let loose = queue.unordered;
@@ -60,7 +57,7 @@ pub fn settle(queue: Counts, table: &mut [u32], pool: &mut [u8]) -> Pushed
     let start = whole.from;
     let end = whole.to;
     if start == end {
-        return room::unchanged(queue, Flag::Is(false));
+        return false;
     }
     fragments::move_fragments(
         table,
@@ -72,11 +69,7 @@ pub fn settle(queue: Counts, table: &mut [u32], pool: &mut [u8]) -> Pushed
         from + end,
     );
     let k = end - start;
-    let mut moved = queue;
-    moved.finished = from + k;
-    moved.unordered = loose - k;
-    Pushed {
-        answer: Flag::Is(true),
-        queue: moved,
-    }
+    queue.finished = from + k;
+    queue.unordered = loose - k;
+    true
 }

@@ -3,30 +3,31 @@
 
 ghost use Rattle.std.specs.Prelude.{◌≡◌, false, ◌+◌, ◌*◌, ◌≤◌, ◌<◌, length};
 ghost use Rattle.reassembly_state.specs.Limits.{frags_most, bytes_most};
-ghost use Rattle.chunks.specs.Message.{flag_told};
+ghost use Rattle.wire_model.specs.Refusal.{none, says};
+ghost use Rattle.refusal.specs.Told.{flag_told};
 ghost use Rattle.reassembly_state.specs.Model.{keep_ordered, push_ordered};
 ghost use Rattle.reassembly_state.specs.State.{state_of, unsound, count, view, after, laid, fragment_of};
 ghost use Rattle.reassembly_state.specs.Rows.{set_at, set_run, fits_if};
 
-use chunks::Flag;
 use data_fields::ChunkPayloadData;
-use reassembly_parts::{record, room};
-use reassembly_state::{Counts, FRAGMENTS, Pushed};
+use reassembly_parts::record;
+use reassembly_state::{Counts, FRAGMENTS};
+use refusal::Refusal;
 
-// The first fragment of a set, which goes to its place by SSN.
+// The first fragment of a set, which goes to its place by SSN; whether it is a whole message.
 fn new_set(
-    queue: Counts,
+    queue: &mut Counts,
     table: &mut [u32],
     pool: &mut [u8],
     chunk: ChunkPayloadData,
     user_data: &[u8],
-) -> Pushed
+) -> bool
     requires table_len { length table.old ≡ 4 * frags_most }
-    requires pool_value { unsound (state_of queue table.old pool.old) ≡ false }
-    requires queue_bound { count queue < frags_most }
-    requires user_data_bound { queue.n_bytes + length user_data.now ≤ bytes_most }
-    requires stream_sequence_number_value { set_run (state_of queue table.old pool.old) chunk.stream_sequence_number ≡ 0 }
-    ensures { after (flag_told result.answer) (state_of result.queue table.new pool.new) ≡ laid (state_of queue table.old pool.old) (keep_ordered (view (state_of queue table.old pool.old)) (fragment_of chunk user_data.now)) }
+    requires pool_value { unsound (state_of queue.old table.old pool.old) ≡ false }
+    requires queue_bound { count queue.old < frags_most }
+    requires user_data_bound { queue.old.n_bytes + length user_data.now ≤ bytes_most }
+    requires stream_sequence_number_value { set_run (state_of queue.old table.old pool.old) chunk.stream_sequence_number ≡ 0 }
+    ensures { after (says none result) (state_of queue.new table.new pool.new) ≡ laid (state_of queue.old table.old pool.old) (keep_ordered (view (state_of queue.old table.old pool.old)) (fragment_of chunk user_data.now)) }
 {
     let more = user_data.len();
     let row = record::row_of(chunk, more);
@@ -44,33 +45,29 @@ fn new_set(
         row,
         user_data,
     );
-    let mut grown = queue;
-    grown.ordered = grown.ordered + 1;
-    grown.n_bytes = grown.n_bytes + more;
-    Pushed {
-        answer: Flag::Is(chunk.beginning_fragment & chunk.ending_fragment),
-        queue: grown,
-    }
+    queue.ordered += 1;
+    queue.n_bytes += more;
+    chunk.beginning_fragment & chunk.ending_fragment
 }
 
-// One more fragment of the set of run rows at index at, which goes to its place by TSN and takes the set's payload identifier over.
+// One more fragment of the set of run rows at index at, which goes to its place by TSN and takes the set's payload identifier over; whether that completes the set.
 fn join_set(
-    queue: Counts,
+    queue: &mut Counts,
     table: &mut [u32],
     pool: &mut [u8],
     chunk: ChunkPayloadData,
     user_data: &[u8],
     at: usize,
     run: usize,
-) -> Pushed
+) -> bool
     requires table_len { length table.old ≡ 4 * frags_most }
-    requires pool_value { unsound (state_of queue table.old pool.old) ≡ false }
-    requires queue_bound { count queue < frags_most }
-    requires user_data_bound { queue.n_bytes + length user_data.now ≤ bytes_most }
-    requires at_value { at ≡ set_at (state_of queue table.old pool.old) chunk.stream_sequence_number }
-    requires run_value { run ≡ set_run (state_of queue table.old pool.old) chunk.stream_sequence_number }
+    requires pool_value { unsound (state_of queue.old table.old pool.old) ≡ false }
+    requires queue_bound { count queue.old < frags_most }
+    requires user_data_bound { queue.old.n_bytes + length user_data.now ≤ bytes_most }
+    requires at_value { at ≡ set_at (state_of queue.old table.old pool.old) chunk.stream_sequence_number }
+    requires run_value { run ≡ set_run (state_of queue.old table.old pool.old) chunk.stream_sequence_number }
     requires run_nonzero { 0 < run }
-    ensures { after (flag_told result.answer) (state_of result.queue table.new pool.new) ≡ laid (state_of queue table.old pool.old) (keep_ordered (view (state_of queue table.old pool.old)) (fragment_of chunk user_data.now)) }
+    ensures { after (says none result) (state_of queue.new table.new pool.new) ≡ laid (state_of queue.old table.old pool.old) (keep_ordered (view (state_of queue.old table.old pool.old)) (fragment_of chunk user_data.now)) }
 {
     let more = user_data.len();
     let mut row = record::row_of(chunk, more);
@@ -88,33 +85,28 @@ fn join_set(
         row,
         user_data,
     );
-    let complete = fragment_sets::is_complete(table, FRAGMENTS, at, run + 1);
-    let mut grown = queue;
-    grown.ordered = grown.ordered + 1;
-    grown.n_bytes = grown.n_bytes + more;
-    Pushed {
-        answer: Flag::Is(complete),
-        queue: grown,
-    }
+    queue.ordered += 1;
+    queue.n_bytes += more;
+    fragment_sets::is_complete(table, FRAGMENTS, at, run + 1)
 }
 
 // Stores the fragment in its set of run rows at index at, or in a new one.
 pub fn keep(
-    queue: Counts,
+    queue: &mut Counts,
     table: &mut [u32],
     pool: &mut [u8],
     chunk: ChunkPayloadData,
     user_data: &[u8],
     at: usize,
     run: usize,
-) -> Pushed
+) -> bool
     requires table_len { length table.old ≡ 4 * frags_most }
-    requires pool_value { unsound (state_of queue table.old pool.old) ≡ false }
-    requires queue_bound { count queue < frags_most }
-    requires user_data_bound { queue.n_bytes + length user_data.now ≤ bytes_most }
-    requires at_value { at ≡ set_at (state_of queue table.old pool.old) chunk.stream_sequence_number }
-    requires run_value { run ≡ set_run (state_of queue table.old pool.old) chunk.stream_sequence_number }
-    ensures { after (flag_told result.answer) (state_of result.queue table.new pool.new) ≡ laid (state_of queue table.old pool.old) (keep_ordered (view (state_of queue table.old pool.old)) (fragment_of chunk user_data.now)) }
+    requires pool_value { unsound (state_of queue.old table.old pool.old) ≡ false }
+    requires queue_bound { count queue.old < frags_most }
+    requires user_data_bound { queue.old.n_bytes + length user_data.now ≤ bytes_most }
+    requires at_value { at ≡ set_at (state_of queue.old table.old pool.old) chunk.stream_sequence_number }
+    requires run_value { run ≡ set_run (state_of queue.old table.old pool.old) chunk.stream_sequence_number }
+    ensures { after (says none result) (state_of queue.new table.new pool.new) ≡ laid (state_of queue.old table.old pool.old) (keep_ordered (view (state_of queue.old table.old pool.old)) (fragment_of chunk user_data.now)) }
 {
     if run == 0 {
         return new_set(queue, table, pool, chunk, user_data);
@@ -124,22 +116,20 @@ pub fn keep(
 
 // Asks, and nothing is changed ahead of storing.
 pub fn push(
-    queue: Counts,
+    queue: &mut Counts,
     table: &mut [u32],
     pool: &mut [u8],
     chunk: ChunkPayloadData,
     user_data: &[u8],
     room: bool,
-) -> Pushed
+) -> Result<bool, Refusal>
     requires table_len { length table.old ≡ 4 * frags_most }
-    requires pool_value { unsound (state_of queue table.old pool.old) ≡ false }
-    requires fits_if { fits_if room queue (length user_data.now) }
-    ensures { after (flag_told result.answer) (state_of result.queue table.new pool.new) ≡ laid (state_of queue table.old pool.old) (push_ordered room (view (state_of queue table.old pool.old)) (fragment_of chunk user_data.now)) }
+    requires pool_value { unsound (state_of queue.old table.old pool.old) ≡ false }
+    requires fits_if { fits_if room queue.old (length user_data.now) }
+    ensures { after (flag_told result) (state_of queue.new table.new pool.new) ≡ laid (state_of queue.old table.old pool.old) (push_ordered room (view (state_of queue.old table.old pool.old)) (fragment_of chunk user_data.now)) }
 {
-    let asked = reassembly_ask::ask(queue, table, chunk, user_data.len(), room);
-    if !asked.keep {
-        let answer = asked.answer;
-        return room::unchanged(queue, answer);
+    match reassembly_ask::ask(*queue, table, chunk, user_data.len(), room)? {
+        Some(set) => Ok(keep(queue, table, pool, chunk, user_data, set.at, set.run)),
+        None => Ok(false),
     }
-    keep(queue, table, pool, chunk, user_data, asked.at, asked.run)
 }

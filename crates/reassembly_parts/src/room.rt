@@ -3,8 +3,7 @@ ghost use Rattle.std.specs.Prelude.{◌≡◌, ◌&&◌, ◌+◌, ◌≤◌, ltb
 ghost use Rattle.reassembly_state.specs.Limits.{frags_most, bytes_most};
 ghost use Rattle.reassembly_state.specs.State.{count};
 
-use chunks::Flag;
-use reassembly_state::{BYTES, Counts, FRAGMENTS, Pushed};
+use reassembly_state::{BYTES, Counts, FRAGMENTS};
 
 // Whether so many bytes and so many more are above the maximum. The sum itself might not fit.
 pub fn above(max: u32, held: usize, more: usize) -> bool
@@ -29,11 +28,4 @@ pub fn has_room(queue: Counts, more: usize) -> bool
         return false;
     }
     more <= BYTES - queue.n_bytes
-}
-
-// The answer of a push that changes nothing.
-pub fn unchanged(queue: Counts, answer: Flag) -> Pushed
-    ensures { (result.answer ≡ answer) × (result.queue ≡ queue) }
-{
-    Pushed { answer, queue }
 }

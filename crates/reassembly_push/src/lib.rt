@@ -2,37 +2,31 @@
 #![tactic(auto)]
 
 ghost use Rattle.std.specs.Prelude.{◌≡◌};
-ghost use Rattle.chunks.specs.Message.{flag_told};
+ghost use Rattle.refusal.specs.Told.{flag_told};
 ghost use Rattle.reassembly_state.specs.State.{state_of, after, pushed};
 
-use chunks::Flag;
 use data_fields::ChunkPayloadData;
 use reassembly_parts::room;
-use reassembly_state::{Counts, Pushed, WORDS};
+use reassembly_state::{Counts, WORDS};
+use refusal::Refusal;
 
 // Refused where the counts are unsound, false where the chunk is of another stream; else by its mark U.
 pub fn push(
-    counts: Counts,
+    counts: &mut Counts,
     table: &mut [u32; WORDS],
     pool: &mut [u8],
     chunk: ChunkPayloadData,
     user_data: &[u8],
-) -> Pushed
-    ensures { after (flag_told result.answer) (state_of result.queue table.new pool.new) ≡ pushed (state_of counts table.old pool.old) chunk user_data.now }
+) -> Result<bool, Refusal>
+    ensures { after (flag_told result) (state_of counts.new table.new pool.new) ≡ pushed (state_of counts.old table.old pool.old) chunk user_data.now }
 {
     if counts.unsound(table, pool) {
-        return Pushed {
-            answer: Flag::Refused(0),
-            queue: counts,
-        };
+        return Err(Refusal::Unsound);
     }
     if chunk.stream_identifier != counts.si {
-        return Pushed {
-            answer: Flag::Is(false),
-            queue: counts,
-        };
+        return Ok(false);
     }
-    let room = room::has_room(counts, user_data.len());
+    let room = room::has_room(*counts, user_data.len());
     if chunk.unordered {
         return reassembly_unordered::push(counts, table, pool, chunk, user_data, room);
     }

@@ -2,19 +2,19 @@
 #![tactic(auto)]
 
 ghost use Rattle.std.specs.Prelude.{◌≡◌};
-ghost use Rattle.chunks.specs.Message.{flag_told};
+ghost use Rattle.refusal.specs.Told.{flag_told};
 ghost use Rattle.reassembly_state.specs.State.{state_of, is_readable};
 
-use chunks::Flag;
 use reassembly_state::{Counts, WORDS};
+use refusal::Refusal;
 
 // Whether a message can be taken.
-pub fn is_readable(counts: Counts, table: &[u32; WORDS], pool: &[u8]) -> Flag
+pub fn is_readable(counts: Counts, table: &[u32; WORDS], pool: &[u8]) -> Result<bool, Refusal>
     ensures { flag_told result ≡ is_readable (state_of counts table.now pool.now) }
 {
     if counts.unsound(table, pool) {
-        return Flag::Refused(0);
+        return Err(Refusal::Unsound);
     }
     let turn = reassembly_turn::in_turn(counts, table);
-    Flag::Is(turn.from < turn.to)
+    Ok(turn.from < turn.to)
 }

@@ -9,43 +9,40 @@ ghost use Rattle.reassembly_state.specs.State.{state_of, unsound, view, lay};
 use reassembly_state::{Counts, FRAGMENTS};
 
 // Of a sound queue drops incomplete sets at or before an SSN, and expects the one after it.
-pub fn skip_ordered(counts: Counts, table: &mut [u32], pool: &mut [u8], last_ssn: u16) -> Counts
+pub fn skip_ordered(queue: &mut Counts, table: &mut [u32], pool: &mut [u8], last_ssn: u16)
     requires table_len { length table.old ≡ 4 * frags_most }
-    requires pool_value { unsound (state_of counts table.old pool.old) ≡ false }
-    ensures { state_of result table.new pool.new ≡ lay (skip_ordered (view (state_of counts table.old pool.old)) last_ssn) (state_of counts table.old pool.old) }
+    requires pool_value { unsound (state_of queue.old table.old pool.old) ≡ false }
+    ensures { state_of queue.new table.new pool.new ≡ lay (skip_ordered (view (state_of queue.old table.old pool.old)) last_ssn) (state_of queue.old table.old pool.old) }
 {
-    let mut queue = reassembly_drop::drop_sets(counts, table, pool, last_ssn, false, 0);
+    reassembly_drop::drop_sets(queue, table, pool, last_ssn, false, 0);
     if serial_ssns::sna16lte(queue.next_ssn, last_ssn) {
         queue.next_ssn = serial_steps::ssn_next(last_ssn);
     }
-    queue
 }
 
 // Of a sound queue drops loose unordered fragments from the front up to the first one after a TSN.
 pub fn skip_unordered(
-    counts: Counts,
+    queue: &mut Counts,
     table: &mut [u32],
     pool: &mut [u8],
     new_cumulative_tsn: u32,
-) -> Counts
+)
     requires table_len { length table.old ≡ 4 * frags_most }
-    requires pool_value { unsound (state_of counts table.old pool.old) ≡ false }
-    ensures { state_of result table.new pool.new ≡ lay (skip_unordered (view (state_of counts table.old pool.old)) new_cumulative_tsn) (state_of counts table.old pool.old) }
+    requires pool_value { unsound (state_of queue.old table.old pool.old) ≡ false }
+    ensures { state_of queue.new table.new pool.new ≡ lay (skip_unordered (view (state_of queue.old table.old pool.old)) new_cumulative_tsn) (state_of queue.old table.old pool.old) }
 {
-    let count = counts.finished + (counts.unordered + counts.ordered);
-    let at = counts.finished;
-    let k = loose_fragments::find_after(table, FRAGMENTS, at, counts.unordered, new_cumulative_tsn);
+    let count = queue.finished + (queue.unordered + queue.ordered);
+    let at = queue.finished;
+    let k = loose_fragments::find_after(table, FRAGMENTS, at, queue.unordered, new_cumulative_tsn);
     let bytes = fragment_close::remove_fragments(
         table,
         FRAGMENTS,
         count,
         pool,
-        counts.n_bytes,
+        queue.n_bytes,
         at,
         k,
     );
-    let mut queue = counts;
-    queue.unordered = queue.unordered - k;
-    queue.n_bytes = queue.n_bytes - bytes;
-    queue
+    queue.unordered -= k;
+    queue.n_bytes -= bytes;
 }

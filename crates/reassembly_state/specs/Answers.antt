@@ -1,25 +1,26 @@
--- The number and the values of each case of each answer of the queue.
+-- The number and the values of each answer of the queue.
 -- Assumes nothing.
-use Rattle.std.specs.Prelude.{Bool, true, false}
-use Rattle.wire_model.specs.Refusal.{none, refuse, Told, says}
+use Rattle.std.specs.Prelude.{Bool, true, false, Option, Some, None, Result}
+use Rattle.wire_model.specs.Refusal.{Told}
+use Rattle.refusal.specs.declared.Refusal.{Refusal}
+use Rattle.refusal.specs.Told.{answer_told}
 use Rattle.reassembly_state.specs.Model.{Message, no_message}
 use Rattle.chunks.specs.declared.Chunks.{Chunks}
-use Rattle.reassembly_state.specs.declared.Took.{Took}
-use Rattle.reassembly_state.specs.declared.Took.TheVariants as messages
-use Rattle.reassembly_state.specs.declared.Done.{Done}
-use Rattle.reassembly_state.specs.declared.Done.TheVariants as dones
 
 -- a message in hand, by its numbers
 unfoldable pub message_held : Chunks → Message
 message_held c =
     record { comes = true; ssn = c.ssn; ppi = c.ppi; size = c.size; position = c.position; given = c.given }
 
-abbrev pub took_told : Took → Told Message
-took_told (messages.Message c) = says none (message_held c)
-took_told messages.Nothing = says none no_message
-took_told (messages.Refused k) = says (refuse k) no_message
+-- of a message that may not be there
+abbrev pub message_found : Option Chunks → Message
+message_found (Some c) = message_held c
+message_found None = no_message
+
+-- a message, or that there is none
+abbrev pub took_told : Result (Option Chunks) Refusal → Told Message
+took_told = answer_told no_message message_found
 
 -- true where it was done
-abbrev pub done_told : Done → Told Bool
-done_told dones.All = says none true
-done_told (dones.Refused k) = says (refuse k) false
+abbrev pub done_told : Result (Unit {0}) Refusal → Told Bool
+done_told = answer_told false (λ _. true)

@@ -37,12 +37,17 @@ set_run s ssn = ahead_of (of_row (other_ssn ssn)) (drop (ahead_of (of_row (has_s
 abbrev pub fits_if : Bool → Counts → ℕ → Type 0
 fits_if room q more = room ≡ true → (count q < frags_most) × (q.n_bytes + more ≤ bytes_most)
 
--- what the questions of an ordered push find: where its set stands; whether it is kept, which takes room; and what it is told where it is not
-pub record Asks (s : State) (room : Bool) (p : ChunkPayloadData) (more : ℕ) (told : Told Bool) (keep : Bool) (at run : ℕ) : Type 0 where
+-- an ordered push of so many bytes is not kept: it changes nothing, and is told this
+abbrev pub Declines : State → Bool → ChunkPayloadData → ℕ → Told Bool → Type 0
+Declines s room p more told =
+    (bytes : List ℕ) → length bytes ≡ more → push_ordered room (view s) (fragment_of p bytes) ≡ gives told (view s)
+
+-- it is kept, which takes room, and its set stands there
+pub record Keeps (s : State) (room : Bool) (p : ChunkPayloadData) (more : ℕ) (at run : ℕ) : Type 0 where
   pub at-is : at ≡ set_at s p.stream_sequence_number
   pub run_is : run ≡ set_run s p.stream_sequence_number
-  pub with_room : keep ≡ true → room ≡ true
-  pub is : (bytes : List ℕ) → length bytes ≡ more → push_ordered room (view s) (fragment_of p bytes) ≡ cond keep (keep_ordered (view s) (fragment_of p bytes)) (gives told (view s))
+  pub with_room : room ≡ true
+  pub is : (bytes : List ℕ) → length bytes ≡ more → push_ordered room (view s) (fragment_of p bytes) ≡ keep_ordered (view s) (fragment_of p bytes)
 
 -- the rows of the loose unordered fragments
 abbrev pub loose_rows : Counts → List Row → List Row

@@ -4,10 +4,10 @@
 
 ghost use Rattle.std.specs.Prelude.{◌≡◌, ◌*◌, length};
 ghost use Rattle.reassembly_state.specs.Limits.{frags_most};
-ghost use Rattle.chunks.specs.Message.{number_told};
+ghost use Rattle.refusal.specs.Told.{count_told};
 ghost use Rattle.reassembly_state.specs.State.{state_of, unsound, num_bytes};
 
-use chunks::{Chunks, Flag, Number};
+use refusal::Refusal;
 
 // The sizes, stated once. `specs/Limits.antt` states them once for the proofs.
 pub const FRAGMENTS: usize = 512;
@@ -28,37 +28,6 @@ pub struct Counts {
     pub unordered: usize,
     pub ordered: usize,
     pub n_bytes: usize,
-}
-
-#[derive(Clone, Copy)]
-pub enum Took {
-    Message(Chunks),
-    Nothing,
-    Refused(u8),
-}
-
-#[derive(Clone, Copy)]
-pub enum Done {
-    All,
-    Refused(u8),
-}
-
-#[derive(Clone, Copy)]
-pub struct Pushed {
-    pub answer: Flag,
-    pub queue: Counts,
-}
-
-#[derive(Clone, Copy)]
-pub struct Taken {
-    pub answer: Took,
-    pub queue: Counts,
-}
-
-#[derive(Clone, Copy)]
-pub struct Forwarded {
-    pub answer: Done,
-    pub queue: Counts,
 }
 
 impl Counts {
@@ -91,12 +60,12 @@ impl Counts {
     }
 
     // The number of bytes held.
-    pub fn get_num_bytes(self, table: &[u32; WORDS], pool: &[u8]) -> Number
-        ensures { number_told result ≡ num_bytes (state_of self table.now pool.now) }
+    pub fn get_num_bytes(self, table: &[u32; WORDS], pool: &[u8]) -> Result<usize, Refusal>
+        ensures { count_told result ≡ num_bytes (state_of self table.now pool.now) }
     {
         if self.unsound(table, pool) {
-            return Number::Refused(0);
+            return Err(Refusal::Unsound);
         }
-        Number::Is(self.n_bytes)
+        Ok(self.n_bytes)
     }
 }

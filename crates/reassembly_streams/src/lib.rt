@@ -7,7 +7,7 @@ pub use streams_forward_bounded::forward_tsn_for_ordered_bounded;
 pub use streams_forward_unordered::forward_tsn_for_unordered;
 pub use streams_fresh::new;
 pub use streams_look::{applicable_forward_tsn_for_ordered_bounded, get_num_bytes};
-pub use streams_model::{Forwarded, Pushed, Streams, Taken};
+pub use streams_model::Streams;
 pub use streams_push::push;
 pub use streams_readable::is_readable;
 pub use streams_take::read;

@@ -1,7 +1,7 @@
 -- An unordered skip does not stop at a fragment that is opposite to its TSN (document 02, M-107): neither is after the other.
 -- Assumes nothing.
 use mathlib.Core.Path.{◌≡◌, refl, sym, ◌∙◌}
-use mathlib.Core.Bool.{Bool, true, false, true≢false}
+use mathlib.Core.Bool.{true, false, true≢false}
 use mathlib.Core.List.{List, ◌∷◌}
 use Prim.Native.Nat.{ℕ}
 use Rattle.serial_model.specs.Serial.{before, compared, is_opposite, opposite}
@@ -10,7 +10,7 @@ use Rattle.serial_model.specs.declared.Order.TheVariants.{Earlier, Same, Later, 
 use Rattle.serial_model.specs.Compared.{is_before, before-told}
 use Rattle.fragments.specs.Frag.{Frag}
 use Rattle.fragments.specs.Words.{past}
-use Rattle.reassembly_state.specs.Model.{Queue, queue, not_after, skip_unordered}
+use Rattle.reassembly_state.specs.Model.{Queue, queue, skip_unordered}
 
 not_before : (a b : ℕ) → opposite 32 a b ≡ true → before 32 a b ≡ false
 not_before a b e = before-told 32 a b ∙ go (compared 32 a b) e

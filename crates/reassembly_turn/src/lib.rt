@@ -65,21 +65,19 @@ pub fn in_turn(queue: Counts, table: &[u32]) -> Span
     }
 }
 
-// The queue without a message of k fragments and so many bytes: the oldest finished one, else the first ordered set, with its SSN.
-pub fn without(queue: Counts, k: usize, bytes: usize, ssn: u16) -> Counts
-    requires bytes_bound { bytes ≤ queue.n_bytes }
-    requires k_bound { k ≤ cond (ltb 0 queue.finished) queue.finished queue.ordered }
-    ensures { result ≡ without_message queue k bytes ssn }
+// Without a message of k fragments and so many bytes: the oldest finished one, else the first ordered set, with its SSN.
+pub fn without(queue: &mut Counts, k: usize, bytes: usize, ssn: u16)
+    requires bytes_bound { bytes ≤ queue.old.n_bytes }
+    requires k_bound { k ≤ cond (ltb 0 queue.old.finished) queue.old.finished queue.old.ordered }
+    ensures { queue.new ≡ without_message queue.old k bytes ssn }
 {
-    let mut left = queue;
-    left.n_bytes = queue.n_bytes - bytes;
+    queue.n_bytes -= bytes;
     if 0 < queue.finished {
-        left.finished = queue.finished - k;
-        return left;
+        queue.finished -= k;
+        return;
     }
-    left.ordered = queue.ordered - k;
+    queue.ordered -= k;
     if ssn == queue.next_ssn {
-        left.next_ssn = serial_steps::ssn_next(ssn);
+        queue.next_ssn = serial_steps::ssn_next(ssn);
     }
-    left
 }

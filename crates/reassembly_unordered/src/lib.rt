@@ -5,15 +5,15 @@ ghost use Rattle.std.specs.Prelude.{◌≡◌, false, ◌+◌, ◌*◌, ◌≤�
 ghost use Rattle.table.specs.Rows.{rows_of, total};
 ghost use Rattle.fragments.specs.Frag.{long_length};
 ghost use Rattle.reassembly_state.specs.Limits.{frags_most};
-ghost use Rattle.chunks.specs.Message.{flag_told};
+ghost use Rattle.refusal.specs.Told.{flag_told};
 ghost use Rattle.reassembly_state.specs.Model.{push_unordered};
 ghost use Rattle.reassembly_state.specs.State.{state_of, unsound, count, view, after, laid, fragment_of};
 ghost use Rattle.reassembly_state.specs.Rows.{fits_if, neighbours};
 
-use chunks::Flag;
 use data_fields::ChunkPayloadData;
 use reassembly_parts::room;
-use reassembly_state::{Counts, FRAGMENTS, Pushed};
+use reassembly_state::{Counts, FRAGMENTS};
+use refusal::Refusal;
 
 // How many bytes the message that an unordered chunk belongs to has besides its own.
 fn reach(queue: Counts, table: &[u32], chunk: ChunkPayloadData) -> usize
@@ -53,28 +53,28 @@ fn too_large(queue: Counts, table: &[u32], chunk: ChunkPayloadData, more: usize)
 
 // Refusals and answers in document 01's order, and nothing changed ahead of storing; whether there is room the caller says.
 pub fn push(
-    queue: Counts,
+    queue: &mut Counts,
     table: &mut [u32],
     pool: &mut [u8],
     chunk: ChunkPayloadData,
     user_data: &[u8],
     room: bool,
-) -> Pushed
+) -> Result<bool, Refusal>
     requires table_len { length table.old ≡ 4 * frags_most }
-    requires pool_value { unsound (state_of queue table.old pool.old) ≡ false }
-    requires fits_if { fits_if room queue (length user_data.now) }
-    ensures { after (flag_told result.answer) (state_of result.queue table.new pool.new) ≡ laid (state_of queue table.old pool.old) (push_unordered room (view (state_of queue table.old pool.old)) (fragment_of chunk user_data.now)) }
+    requires pool_value { unsound (state_of queue.old table.old pool.old) ≡ false }
+    requires fits_if { fits_if room queue.old (length user_data.now) }
+    ensures { after (flag_told result) (state_of queue.new table.new pool.new) ≡ laid (state_of queue.old table.old pool.old) (push_unordered room (view (state_of queue.old table.old pool.old)) (fragment_of chunk user_data.now)) }
 {
     let more = user_data.len();
-    if too_large(queue, table, chunk, more) {
-        return room::unchanged(queue, Flag::Refused(6));
+    if too_large(*queue, table, chunk, more) {
+        return Err(Refusal::MessageTooLarge);
     }
     if table_search::has_tsn(table, FRAGMENTS, queue.finished, queue.unordered, chunk.tsn) {
-        return room::unchanged(queue, Flag::Is(false));
+        return Ok(false);
     }
     if !room {
-        return room::unchanged(queue, Flag::Refused(8));
+        return Err(Refusal::NoRoom);
     }
-    let grown = reassembly_loose::store_loose(queue, table, pool, chunk, user_data);
-    reassembly_loose::settle(grown, table, pool)
+    reassembly_loose::store_loose(queue, table, pool, chunk, user_data);
+    Ok(reassembly_loose::settle(queue, table, pool))
 }

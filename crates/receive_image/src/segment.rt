@@ -1,5 +1,4 @@
 // A small image, cut into segments of eight bytes, each of which goes into a DATA chunk; and the order in which they arrive.
-use chunk::Marshalled;
 use data_fields::ChunkPayloadData;
 
 pub const STREAM: u16 = 7;
@@ -17,45 +16,25 @@ const IMAGE: [u8; 48] = *b"BOOT 001CLOCK 02GYRO 003STAR 004RADIO 05LOADER 6";
 
 const SEGMENT: usize = 8;
 
-const SEGMENTS: usize = 6;
-
-pub const ARRIVALS: usize = 7;
-
-// Which segment arrives: the fourth is late, and the second comes twice.
-pub fn arrival(i: usize) -> usize {
-    let order: [usize; 7] = [0, 2, 1, 1, 5, 4, 3];
-    if i < order.len() { order[i] } else { 0 }
-}
+// Which segments arrive: the fourth is late, and the second comes twice.
+pub const ARRIVALS: [usize; 7] = [0, 2, 1, 1, 5, 4, 3];
 
 // The chunk of a segment, as it comes over the wire: the first is marked beginning, the last ending. Answers its byte count.
 pub fn wire(i: usize, out: &mut [u8]) -> usize {
-    if SEGMENTS <= i {
+    let image = IMAGE;
+    let (segments, _) = image.as_chunks::<SEGMENT>();
+    let Some(segment) = segments.get(i) else {
         return 0;
-    }
+    };
     let fields = ChunkPayloadData {
         unordered: false,
         beginning_fragment: i == 0,
         ending_fragment: i == 5,
         immediate_sack: false,
-        tsn: std::num::wrapping_add_u32(FIRST, i as u32),
+        tsn: FIRST.wrapping_add(i as u32),
         stream_identifier: STREAM,
         stream_sequence_number: 0,
         payload_type: LOADER,
     };
-    let image = IMAGE;
-    let start = SEGMENT * i;
-    let answer = chunk_payload_data::marshal_to(out, fields, &image[start..start + SEGMENT]);
-    match answer {
-        Marshalled::Bytes(n) => n,
-        Marshalled::Refused(_) => 0,
-    }
-}
-
-// The length of a segment's user data, in the 16 bits that the TSN queue keeps.
-pub fn size(user_data: &[u8]) -> u16 {
-    if user_data.len() <= 65535 {
-        user_data.len() as u16
-    } else {
-        0
-    }
+    chunk_payload_data::marshal_to(out, fields, segment).unwrap_or(0)
 }

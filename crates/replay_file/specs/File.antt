@@ -1,6 +1,6 @@
 -- A file of captured chunks: document 02, M-113.
 -- Assumes nothing.
-use Rattle.std.specs.Prelude.{ℕ, zero, suc, ◌+◌, ◌*◌, Bool, false, cond, List, [], ◌∷◌, eqb, ltb, length, get_or, take, drop}
+use Rattle.std.specs.Prelude.{ℕ, zero, suc, ◌+◌, ◌*◌, Bool, false, cond, List, [], ◌∷◌, eqb, ltb, length, get_or, take, drop, Option, Some, None}
 use Rattle.replay_file.specs.declared.Record.{Record}
 use Rattle.replay_file.specs.declared.Record.TheVariants as answers
 
@@ -31,10 +31,10 @@ start bytes =
     (chunk (number 2 bytes))))
 
 -- the case of each answer
-abbrev pub record_told : Record → Start
-record_told answers.Nothing = none
-record_told answers.Cut = short
-record_told (answers.Chunk n) = chunk n
+abbrev pub record_told : Option Record → Start
+record_told None = none
+record_told (Some answers.Cut) = short
+record_told (Some (answers.Chunk n)) = chunk n
 
 -- ── the records of a file, behind its version ──
 

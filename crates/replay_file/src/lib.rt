@@ -6,10 +6,9 @@ ghost use Rattle.replay_file.specs.File.{versioned, start, record_told, records_
 
 pub const VERSION: u8 = 1;
 
-// What stands where a record should start: no byte any more, a record cut short, or a chunk of so many bytes behind its length.
+// What a record is: cut short, or a chunk of so many bytes behind its length.
 #[derive(Clone, Copy)]
 pub enum Record {
-    Nothing,
     Cut,
     Chunk(u16),
 }
@@ -24,22 +23,22 @@ pub fn is_known(file: &[u8]) -> bool
     file[0] == VERSION
 }
 
-// What stands at the front of the rest of a file.
-pub fn record_at(rest: &[u8]) -> Record
+// The record at the front of the rest of a file; none where no byte is left.
+pub fn record_at(rest: &[u8]) -> Option<Record>
     ensures { record_told result ≡ start rest.now }
 {
     let left = rest.len();
     if left == 0 {
-        return Record::Nothing;
+        return None;
     }
     if left < 2 {
-        return Record::Cut;
+        return Some(Record::Cut);
     }
     let size = wire::get_u16(rest, 0);
     if left < 2 + size as usize {
-        return Record::Cut;
+        return Some(Record::Cut);
     }
-    Record::Chunk(size)
+    Some(Record::Chunk(size))
 }
 
 // So many records are replayed at most: 2^33.

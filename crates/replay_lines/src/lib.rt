@@ -2,19 +2,19 @@
 #![tactic(auto)]
 
 ghost use Rattle.std.specs.Prelude.{◌≤◌, length};
-ghost use Rattle.payload_model.specs.Answers.{flag_told};
+ghost use Rattle.refusal.specs.Told.{flag_told};
 ghost use Rattle.replay_words.specs.Behind.{Put};
 ghost use Rattle.replay_words.specs.Lines.{line, said_answer, said_cut, total_line};
 
 use counters::Counters;
-use payload_model::Flag;
+use refusal::Refusal;
 use replay_words::{decimal_at, put_at, said_at, words_at};
 
 // No line is longer.
 pub const LINE: usize = 96;
 
 // The line of a record with this number and answer; how long it is.
-pub fn put_record(out: &mut [u8], number: u64, answer: Flag) -> usize
+pub fn put_record(out: &mut [u8], number: u64, answer: Result<bool, Refusal>) -> usize
     requires { 96 ≤ length out.old }
     ensures { Put out.old (line number (said_answer (flag_told answer))) out.new result }
 {

@@ -14,19 +14,22 @@ pub use replay_state::{Replay, new, total};
 pub use replay_turn::Turn;
 
 // What stands at the front of the rest of the file: a record's line and the replay behind it, or that there is no record any more.
-pub fn step(replay: Replay, rest: &[u8], table: &mut [u32; WORDS], line: &mut [u8; LINE]) -> Turn
-    ensures { left_of result table.new line.new ≡ left (stepped (state_of replay table.old) rest.now) line.old }
+pub fn step(
+    replay: &mut Replay,
+    rest: &[u8],
+    table: &mut [u32; WORDS],
+    line: &mut [u8; LINE],
+) -> Turn
+    ensures { left_of result replay.new table.new line.new ≡ left (stepped (state_of replay.old table.old) rest.now) line.old }
 {
-    let found = replay_file::record_at(rest);
-    match found {
-        Record::Nothing => Turn {
+    match replay_file::record_at(rest) {
+        None => Turn {
             more: false,
             taken: 0,
             written: 0,
-            replay,
         },
-        Record::Cut => replay_turn::cut_step(replay, line),
-        Record::Chunk(n) => {
+        Some(Record::Cut) => replay_turn::cut_step(replay, line),
+        Some(Record::Chunk(n)) => {
             let end = 2 + n as usize;
             replay_turn::chunk_step(replay, end, &rest[2..end], table, line)
         }

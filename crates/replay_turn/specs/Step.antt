@@ -12,6 +12,7 @@ use Rattle.replay_file.specs.File.{Start, start}
 use Rattle.replay_push.specs.Decoded.{recorded}
 use Rattle.replay_lines.specs.Lines.{line, said_answer, said_cut}
 use Rattle.replay_state.specs.State.{State, state_of}
+use Rattle.replay_state.specs.declared.Replay.{Replay}
 use Rattle.replay_turn.specs.declared.Turn.{Turn}
 
 -- "Count stored, turned away, refused and cut records": what an answer counts as
@@ -81,5 +82,5 @@ pub record Left : Type 0 where
 abbrev pub left : Step → List ℕ → Left
 left s out = record { more = s.more; taken = s.taken; written = length s.text; line = over out s.text; state = s.state }
 
-abbrev pub left_of : Turn → List ℕ → List ℕ → Left
-left_of t ws out = record { more = t.more; taken = t.taken; written = t.written; line = out; state = state_of t.replay ws }
+abbrev pub left_of : Turn → Replay → List ℕ → List ℕ → Left
+left_of t r ws out = record { more = t.more; taken = t.taken; written = t.written; line = out; state = state_of r ws }

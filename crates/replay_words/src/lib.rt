@@ -2,12 +2,12 @@
 #![tactic(auto)]
 
 ghost use Rattle.std.specs.Prelude.{◌++◌, ◌+◌, ◌≤◌, length};
-ghost use Rattle.payload_model.specs.Answers.{flag_told};
+ghost use Rattle.refusal.specs.Told.{flag_told};
 ghost use Rattle.replay_words.specs.Behind.{Behind};
 ghost use Rattle.replay_words.specs.Lines.{decimal, said_answer, word};
 
 use itoa::Buffer;
-use payload_model::Flag;
+use refusal::Refusal;
 
 // Bytes, put behind the first ones; the place behind them.
 pub fn put_at(out: &mut [u8], at: usize, bytes: &[u8]) -> usize
@@ -49,18 +49,14 @@ pub fn words_at(out: &mut [u8], at: usize, n: u32, m: u32) -> usize
 }
 
 // What is said of a record's answer: T, F or the refusal's number.
-pub fn said_at(out: &mut [u8], at: usize, answer: Flag) -> usize
+pub fn said_at(out: &mut [u8], at: usize, answer: Result<bool, Refusal>) -> usize
     requires { at + 20 ≤ length out.old }
     ensures behind { Behind out.old at (said_answer (flag_told answer)) out.new result }
     ensures upper_bound { result ≤ at + 20 }
 {
     match answer {
-        Flag::Is(stored) => {
-            if stored {
-                return put_at(out, at, b"T");
-            }
-            put_at(out, at, b"F")
-        }
-        Flag::Refused(k) => decimal_at(out, at, k as u64),
+        Ok(true) => put_at(out, at, b"T"),
+        Ok(false) => put_at(out, at, b"F"),
+        Err(e) => decimal_at(out, at, u64::from(e.number())),
     }
 }

@@ -2,20 +2,17 @@
 -- Assumes nothing.
 use mathlib.Core.Path.{◌≡◌}
 use Prim.Native.Nat.{ℕ}
-use Rattle.wire_model.specs.Refusal.{none, refuse, first}
+use Rattle.wire_model.specs.Refusal.{none, refuse, first, says}
 use Rattle.wire.proofs.Reading.{refused, accepted}
 use Rattle.sack_entries.specs.Layout.{Sack, sack}
 use Rattle.chunk.specs.Header.{Headed}
-use Rattle.sack_fields.specs.Sack.{sack_held, sack_told, sack_checks, sack_read}
-use Rattle.sack_fields.specs.declared.ChunkSelectiveAck.{ChunkSelectiveAck}
-use Rattle.sack_fields.specs.declared.Unmarshalled.{Unmarshalled}
-use Rattle.sack_fields.specs.declared.Unmarshalled.TheVariants as answers
+use Rattle.sack_fields.specs.Sack.{sack_checks, sack_read}
 
-module _ (lent : ℕ) (h : Headed Sack) (r : Unmarshalled) (t : sack_told r ≡ sack_read lent h) where
-  pub sack-refused : {k : ℕ} → r ≡ answers.Refused k → first (sack_checks lent h) ≡ refuse k
+module _ (lent : ℕ) (h : Headed Sack) where
+  pub sack-refused : {k : ℕ} → says (refuse k) (sack 0 0 0 0) ≡ sack_read lent h → first (sack_checks lent h) ≡ refuse k
   unfolding sack_read
-  sack-refused e = refused (sack 0 0 0 0) h.fields (first (sack_checks lent h)) (rw e at t)
+  sack-refused t = refused (sack 0 0 0 0) h.fields (first (sack_checks lent h)) t
 
-  pub sack-taken : {s : ChunkSelectiveAck} → r ≡ answers.Fields s → (first (sack_checks lent h) ≡ none) × (sack_held s ≡ h.fields)
+  pub sack-taken : {s : Sack} → says none s ≡ sack_read lent h → (first (sack_checks lent h) ≡ none) × (s ≡ h.fields)
   unfolding sack_read
-  sack-taken e = accepted (sack 0 0 0 0) h.fields (first (sack_checks lent h)) (rw e at t)
+  sack-taken t = accepted (sack 0 0 0 0) h.fields (first (sack_checks lent h)) t

@@ -1,21 +1,20 @@
 -- Reading a SACK chunk.
 -- Assumes nothing.
-use Rattle.std.specs.Prelude.{ℕ, ◌+◌, ◌*◌, ◌≤◌, List, [], ◌∷◌, ◌++◌, ltb}
-use Rattle.wire_model.specs.Refusal.{none, refuse, Check, when, first, Told, says, answer}
+use Rattle.std.specs.Prelude.{ℕ, ◌+◌, ◌*◌, ◌≤◌, List, [], ◌∷◌, ◌++◌, ltb, Result, Ok, Err}
+use Rattle.wire_model.specs.Refusal.{Check, when, first, Told, answer}
+use Rattle.refusal.specs.declared.Refusal.{Refusal}
+use Rattle.refusal.specs.Told.{answer_told}
 use Rattle.sack_entries.specs.Layout.{Sack, sack, SackFits, sack_value}
 use Rattle.chunk.specs.Header.{kind_checks, Headed, HeadedFront}
 use Rattle.sack_fields.specs.declared.ChunkSelectiveAck.{ChunkSelectiveAck}
-use Rattle.sack_fields.specs.declared.Unmarshalled.{Unmarshalled}
-use Rattle.sack_fields.specs.declared.Unmarshalled.TheVariants as answers
 
 -- what the struct holds: cumulative TSN, a_rwnd, N, X
 unfoldable pub sack_held : ChunkSelectiveAck → Sack
 sack_held s = sack s.cumulative_tsn_ack s.advertised_receiver_window_credit s.gap_ack_blocks s.duplicate_tsns
 
--- the number and the values of each case
-abbrev pub sack_told : Unmarshalled → Told Sack
-sack_told (answers.Fields s) = says none (sack_held s)
-sack_told (answers.Refused k) = says (refuse k) (sack 0 0 0 0)
+-- the values are those that the struct holds
+abbrev pub sack_told : Result ChunkSelectiveAck Refusal → Told Sack
+sack_told = answer_told (sack 0 0 0 0) sack_held
 
 -- the fields that the lent bytes begin with
 abbrev pub SackFront : List ℕ → Type 0
@@ -32,6 +31,6 @@ unfoldable pub sack_read : ℕ → Headed Sack → Told Sack
 sack_read lent h = answer (sack 0 0 0 0) (first (sack_checks lent h)) h.fields
 
 -- where fields come back both lists are lent
-abbrev pub Lists : ℕ → Unmarshalled → Type 0
-Lists lent (answers.Fields s) = 16 + 4 * s.gap_ack_blocks + 4 * s.duplicate_tsns ≤ lent
-Lists lent (answers.Refused k) = Unit {0}
+abbrev pub Lists : ℕ → Result ChunkSelectiveAck Refusal → Type 0
+Lists lent (Ok s) = 16 + 4 * s.gap_ack_blocks + 4 * s.duplicate_tsns ≤ lent
+Lists lent (Err e) = Unit {0}

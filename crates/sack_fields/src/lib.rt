@@ -5,6 +5,7 @@ ghost use Rattle.std.specs.Prelude.{◌≡◌, ◌≤◌, length};
 ghost use Rattle.sack_fields.specs.Sack.{sack_held, sack_told, SackFront, sack_read, Lists};
 
 use chunk::chunk_header;
+use refusal::Refusal;
 
 // The fields of a SACK chunk before its lists, with N and X, the counts of the two lists.
 #[derive(Clone, Copy)]
@@ -15,31 +16,20 @@ pub struct ChunkSelectiveAck {
     pub duplicate_tsns: u16,
 }
 
-#[derive(Clone, Copy)]
-pub enum Unmarshalled {
-    Fields(ChunkSelectiveAck),
-    Refused(u8),
-}
-
 // The fields of the SACK chunk that the lent bytes begin with, with what its lists are known to be.
-pub fn read(raw: &[u8]) -> Unmarshalled
+pub fn read(raw: &[u8]) -> Result<ChunkSelectiveAck, Refusal>
     ensures result_value { (f : SackFront raw.now) → sack_told result ≡ sack_read (length raw.now) f.fields }
     ensures lists { Lists (length raw.now) result }
 {
-    let header = chunk_header::unmarshal_as(raw, 3, 16, 5);
-    match header {
-        chunk_header::Unmarshalled::Refused(k) => Unmarshalled::Refused(k),
-        chunk_header::Unmarshalled::Header(h) => {
-            let length = h.length as usize;
-            let sack = fields(raw);
-            let blocks = sack.gap_ack_blocks as usize;
-            let duplicates = sack.duplicate_tsns as usize;
-            if length < 16 + 4 * blocks + 4 * duplicates {
-                return Unmarshalled::Refused(5);
-            }
-            Unmarshalled::Fields(sack)
-        }
+    let header = chunk_header::unmarshal_as(raw, 3, 16).map_err(|e| e.told(Refusal::ShortSack))?;
+    let length = header.length as usize;
+    let sack = fields(raw);
+    let blocks = sack.gap_ack_blocks as usize;
+    let duplicates = sack.duplicate_tsns as usize;
+    if length < 16 + 4 * blocks + 4 * duplicates {
+        return Err(Refusal::ShortSack);
     }
+    Ok(sack)
 }
 
 // The fields behind a header.

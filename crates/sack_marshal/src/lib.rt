@@ -3,10 +3,10 @@
 
 ghost use Rattle.std.specs.Prelude.{◌≡◌};
 ghost use Rattle.wire_model.specs.Refusal.{written};
-ghost use Rattle.chunk.specs.Marshal.{marshal_told};
+ghost use Rattle.refusal.specs.Told.{count_told};
 ghost use Rattle.sack_marshal.specs.Written.{sack_written};
 
-use chunk::Marshalled;
+use refusal::Refusal;
 
 // The SACK chunk of these fields and lists, written to the front of the lent buffer.
 pub fn marshal_to(
@@ -16,21 +16,21 @@ pub fn marshal_to(
     starts: &[u16],
     ends: &[u16],
     duplicates: &[u32],
-) -> Marshalled
-    ensures { written (marshal_told result) out.new ≡ sack_written cumulative window starts.now ends.now duplicates.now out.old }
+) -> Result<usize, Refusal>
+    ensures { written (count_told result) out.new ≡ sack_written cumulative window starts.now ends.now duplicates.now out.old }
 {
     let blocks = starts.len();
     let tsns = duplicates.len();
     if 16379 < blocks + tsns {
-        return Marshalled::Refused(9);
+        return Err(Refusal::ChunkTooLarge);
     }
     if blocks != ends.len() {
-        return Marshalled::Refused(9);
+        return Err(Refusal::ChunkTooLarge);
     }
     let list = 16 + 4 * blocks;
     let size = list + 4 * tsns;
     if out.len() < size {
-        return Marshalled::Refused(10);
+        return Err(Refusal::ShortOutput);
     }
     fields::put_front_4422(
         out,
@@ -43,5 +43,5 @@ pub fn marshal_to(
         tsns as u16,
     );
     fields::put_pairs_and_words(&mut out[16..], starts, ends, duplicates);
-    Marshalled::Bytes(size)
+    Ok(size)
 }

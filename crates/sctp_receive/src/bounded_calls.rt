@@ -7,6 +7,7 @@ ghost use Rattle.sctp_receive_result.specs.Result.{told, done};
 ghost use Rattle.sctp_receive_model.specs.States.{state_from, found_from};
 
 use reassembly_queue::{ReassemblyQueue, WORDS};
+use reassembly_state::Counts;
 
 // Drops incomplete sets at or before an SSN that a cumulative point reaches, and expects the first set that it does not reach, or the SSN after the last,
 // where that is later than what is expected.
@@ -26,22 +27,19 @@ pub extern "C" fn sctp_receive_reassembly_queue_forward_tsn_for_ordered_bounded(
 ) -> i32
     ensures { after (done result) (state_from si.new next_ssn.new max_message_size.new finished.new unordered.new ordered.new n_bytes.new table.new pool.new) ≡ forward_bounded (state_from si.old next_ssn.old max_message_size.old finished.old unordered.old ordered.old n_bytes.old table.old pool.old) last_ssn new_cumulative_tsn }
 {
-    let queue = ReassemblyQueue {
-        si: *si,
-        next_ssn: *next_ssn,
-        max_message_size: *max_message_size,
-        finished: *finished,
-        unordered: *unordered,
-        ordered: *ordered,
-        n_bytes: *n_bytes,
+    let mut queue = ReassemblyQueue {
+        counts: Counts {
+            si: *si,
+            next_ssn: *next_ssn,
+            max_message_size: *max_message_size,
+            finished: *finished,
+            unordered: *unordered,
+            ordered: *ordered,
+            n_bytes: *n_bytes,
+        },
     };
-    let forwarded = queue.forward_tsn_for_ordered_bounded(
-        table,
-        pool,
-        last_ssn,
-        new_cumulative_tsn,
-    );
-    let left = forwarded.queue;
+    let answer = queue.forward_tsn_for_ordered_bounded(table, pool, last_ssn, new_cumulative_tsn);
+    let left = queue.counts;
     *si = left.si;
     *next_ssn = left.next_ssn;
     *max_message_size = left.max_message_size;
@@ -49,7 +47,6 @@ pub extern "C" fn sctp_receive_reassembly_queue_forward_tsn_for_ordered_bounded(
     *unordered = left.unordered;
     *ordered = left.ordered;
     *n_bytes = left.n_bytes;
-    let answer = forwarded.answer;
     sctp_receive_model::fragment_answers::forwarded(answer)
 }
 
@@ -74,13 +71,15 @@ pub extern "C" fn sctp_receive_reassembly_queue_applicable_forward_tsn_for_order
     ensures { told result (found_from found.new ssn.new) ≡ applicable (state_from si next_ssn max_message_size finished unordered ordered n_bytes table.now pool.now) last_ssn new_cumulative_tsn peer_last_tsn }
 {
     let queue = ReassemblyQueue {
-        si,
-        next_ssn,
-        max_message_size,
-        finished,
-        unordered,
-        ordered,
-        n_bytes,
+        counts: Counts {
+            si,
+            next_ssn,
+            max_message_size,
+            finished,
+            unordered,
+            ordered,
+            n_bytes,
+        },
     };
     let answer = queue.applicable_forward_tsn_for_ordered_bounded(
         table,

@@ -7,8 +7,8 @@ ghost use Rattle.sctp_receive_result.specs.Result.{told};
 ghost use Rattle.sctp_receive_values.specs.Fields.{chunk_from, values_from};
 ghost use Rattle.sctp_receive_places.specs.Places.{span, user_span};
 
-use chunk_payload_data::Unmarshalled;
 use data_fields::ChunkPayloadData;
+use sctp_receive_result::{counted, refused};
 
 // The fields of the DATA chunk that the lent bytes begin with; 1 2 3 4 15.
 #[unsafe(no_mangle)]
@@ -35,7 +35,7 @@ pub extern "C" fn sctp_receive_data_unmarshal(
     *payload_type = 0;
     let answer = chunk_payload_data::unmarshal(raw);
     match answer {
-        Unmarshalled::Fields(p) => {
+        Ok(p) => {
             *unordered = p.unordered;
             *beginning_fragment = p.beginning_fragment;
             *ending_fragment = p.ending_fragment;
@@ -46,7 +46,7 @@ pub extern "C" fn sctp_receive_data_unmarshal(
             *payload_type = p.payload_type;
             -1
         }
-        Unmarshalled::Refused(k) => k as i32,
+        Err(e) => refused(e),
     }
 }
 
@@ -90,5 +90,5 @@ pub extern "C" fn sctp_receive_data_marshal_to(
         payload_type,
     };
     let answer = chunk_payload_data::marshal_to(out, fields, user);
-    sctp_receive_codecs::marshalled(answer, n)
+    counted(answer, n)
 }

@@ -11,6 +11,7 @@ ghost use Rattle.sctp_receive_model.specs.States.{fragment_counts, state_from, m
 
 use data_fields::ChunkPayloadData;
 use reassembly_queue::{ReassemblyQueue, WORDS};
+use reassembly_state::Counts;
 
 // A fresh queue of a stream; the table and the pool may hold anything.
 #[unsafe(no_mangle)]
@@ -27,7 +28,7 @@ pub extern "C" fn sctp_receive_reassembly_queue_new(
 )
     ensures { fragment_counts si.new next_ssn.new max_message_size.new finished.new unordered.new ordered.new n_bytes.new ≡ fresh stream most }
 {
-    let left = ReassemblyQueue::new(stream, most);
+    let left = ReassemblyQueue::new(stream, most).counts;
     *si = left.si;
     *next_ssn = left.next_ssn;
     *max_message_size = left.max_message_size;
@@ -63,14 +64,16 @@ pub extern "C" fn sctp_receive_reassembly_queue_push(
 ) -> i32
     ensures { after (told result is.new) (state_from si.new next_ssn.new max_message_size.new finished.new unordered.new ordered.new n_bytes.new table.new pool.new) ≡ pushed (state_from si.old next_ssn.old max_message_size.old finished.old unordered.old ordered.old n_bytes.old table.old pool.old) (chunk_from is_unordered beginning_fragment ending_fragment immediate_sack tsn stream_identifier stream_sequence_number payload_type) user_data.now }
 {
-    let queue = ReassemblyQueue {
-        si: *si,
-        next_ssn: *next_ssn,
-        max_message_size: *max_message_size,
-        finished: *finished,
-        unordered: *unordered,
-        ordered: *ordered,
-        n_bytes: *n_bytes,
+    let mut queue = ReassemblyQueue {
+        counts: Counts {
+            si: *si,
+            next_ssn: *next_ssn,
+            max_message_size: *max_message_size,
+            finished: *finished,
+            unordered: *unordered,
+            ordered: *ordered,
+            n_bytes: *n_bytes,
+        },
     };
     let chunk = ChunkPayloadData {
         unordered: is_unordered,
@@ -82,8 +85,8 @@ pub extern "C" fn sctp_receive_reassembly_queue_push(
         stream_sequence_number,
         payload_type,
     };
-    let pushed = queue.push(table, pool, chunk, user_data);
-    let left = pushed.queue;
+    let answer = queue.push(table, pool, chunk, user_data);
+    let left = queue.counts;
     *si = left.si;
     *next_ssn = left.next_ssn;
     *max_message_size = left.max_message_size;
@@ -91,7 +94,6 @@ pub extern "C" fn sctp_receive_reassembly_queue_push(
     *unordered = left.unordered;
     *ordered = left.ordered;
     *n_bytes = left.n_bytes;
-    let answer = pushed.answer;
     sctp_receive_hand::flag(answer, is)
 }
 
@@ -112,13 +114,15 @@ pub extern "C" fn sctp_receive_reassembly_queue_is_readable(
     ensures { told result is.new ≡ is_readable (state_from si next_ssn max_message_size finished unordered ordered n_bytes table.now pool.now) }
 {
     let queue = ReassemblyQueue {
-        si,
-        next_ssn,
-        max_message_size,
-        finished,
-        unordered,
-        ordered,
-        n_bytes,
+        counts: Counts {
+            si,
+            next_ssn,
+            max_message_size,
+            finished,
+            unordered,
+            ordered,
+            n_bytes,
+        },
     };
     let answer = queue.is_readable(table, pool);
     sctp_receive_hand::flag(answer, is)
@@ -147,17 +151,19 @@ pub extern "C" fn sctp_receive_reassembly_queue_read(
 ) -> i32
     ensures { reads (told result (message_from found.new ssn.new ppi.new bytes.new position.new given.new)) (state_from si.new next_ssn.new max_message_size.new finished.new unordered.new ordered.new n_bytes.new table.new pool.new) buffer.new ≡ read (state_from si.old next_ssn.old max_message_size.old finished.old unordered.old ordered.old n_bytes.old table.old pool.old) buffer.old }
 {
-    let queue = ReassemblyQueue {
-        si: *si,
-        next_ssn: *next_ssn,
-        max_message_size: *max_message_size,
-        finished: *finished,
-        unordered: *unordered,
-        ordered: *ordered,
-        n_bytes: *n_bytes,
+    let mut queue = ReassemblyQueue {
+        counts: Counts {
+            si: *si,
+            next_ssn: *next_ssn,
+            max_message_size: *max_message_size,
+            finished: *finished,
+            unordered: *unordered,
+            ordered: *ordered,
+            n_bytes: *n_bytes,
+        },
     };
-    let taken = queue.read(table, pool, buffer);
-    let left = sctp_receive_fragments::taken(taken);
+    let answer = queue.read(table, pool, buffer);
+    let left = sctp_receive_fragments::taken(queue, answer);
     *si = left.si;
     *next_ssn = left.next_ssn;
     *max_message_size = left.max_message_size;
@@ -190,17 +196,19 @@ pub extern "C" fn sctp_receive_reassembly_queue_forward_tsn_for_ordered(
 ) -> i32
     ensures { after (done result) (state_from si.new next_ssn.new max_message_size.new finished.new unordered.new ordered.new n_bytes.new table.new pool.new) ≡ forward_ordered (state_from si.old next_ssn.old max_message_size.old finished.old unordered.old ordered.old n_bytes.old table.old pool.old) last_ssn }
 {
-    let queue = ReassemblyQueue {
-        si: *si,
-        next_ssn: *next_ssn,
-        max_message_size: *max_message_size,
-        finished: *finished,
-        unordered: *unordered,
-        ordered: *ordered,
-        n_bytes: *n_bytes,
+    let mut queue = ReassemblyQueue {
+        counts: Counts {
+            si: *si,
+            next_ssn: *next_ssn,
+            max_message_size: *max_message_size,
+            finished: *finished,
+            unordered: *unordered,
+            ordered: *ordered,
+            n_bytes: *n_bytes,
+        },
     };
-    let forwarded = queue.forward_tsn_for_ordered(table, pool, last_ssn);
-    let left = forwarded.queue;
+    let answer = queue.forward_tsn_for_ordered(table, pool, last_ssn);
+    let left = queue.counts;
     *si = left.si;
     *next_ssn = left.next_ssn;
     *max_message_size = left.max_message_size;
@@ -208,7 +216,6 @@ pub extern "C" fn sctp_receive_reassembly_queue_forward_tsn_for_ordered(
     *unordered = left.unordered;
     *ordered = left.ordered;
     *n_bytes = left.n_bytes;
-    let answer = forwarded.answer;
     sctp_receive_model::fragment_answers::forwarded(answer)
 }
 
@@ -228,17 +235,19 @@ pub extern "C" fn sctp_receive_reassembly_queue_forward_tsn_for_unordered(
 ) -> i32
     ensures { after (done result) (state_from si.new next_ssn.new max_message_size.new finished.new unordered.new ordered.new n_bytes.new table.new pool.new) ≡ forward_unordered (state_from si.old next_ssn.old max_message_size.old finished.old unordered.old ordered.old n_bytes.old table.old pool.old) new_cumulative_tsn }
 {
-    let queue = ReassemblyQueue {
-        si: *si,
-        next_ssn: *next_ssn,
-        max_message_size: *max_message_size,
-        finished: *finished,
-        unordered: *unordered,
-        ordered: *ordered,
-        n_bytes: *n_bytes,
+    let mut queue = ReassemblyQueue {
+        counts: Counts {
+            si: *si,
+            next_ssn: *next_ssn,
+            max_message_size: *max_message_size,
+            finished: *finished,
+            unordered: *unordered,
+            ordered: *ordered,
+            n_bytes: *n_bytes,
+        },
     };
-    let forwarded = queue.forward_tsn_for_unordered(table, pool, new_cumulative_tsn);
-    let left = forwarded.queue;
+    let answer = queue.forward_tsn_for_unordered(table, pool, new_cumulative_tsn);
+    let left = queue.counts;
     *si = left.si;
     *next_ssn = left.next_ssn;
     *max_message_size = left.max_message_size;
@@ -246,7 +255,6 @@ pub extern "C" fn sctp_receive_reassembly_queue_forward_tsn_for_unordered(
     *unordered = left.unordered;
     *ordered = left.ordered;
     *n_bytes = left.n_bytes;
-    let answer = forwarded.answer;
     sctp_receive_model::fragment_answers::forwarded(answer)
 }
 
@@ -269,29 +277,20 @@ pub extern "C" fn sctp_receive_forward_tsn_apply_to_stream(
 ) -> i32
     ensures { (f : Pairs streams.now) → after (done result) (state_from si.new next_ssn.new max_message_size.new finished.new unordered.new ordered.new n_bytes.new table.new pool.new) ≡ applied_to_stream (state_from si.old next_ssn.old max_message_size.old finished.old unordered.old ordered.old n_bytes.old table.old pool.old) cumulative_tsn new_cumulative_tsn f.streams f.ssns }
 {
-    let skipped = sctp_receive_forward::apply_to_stream(
-        *si,
-        *next_ssn,
-        *max_message_size,
-        *finished,
-        *unordered,
-        *ordered,
-        *n_bytes,
+    let answer = sctp_receive_forward::apply_to_stream(
+        si,
+        next_ssn,
+        max_message_size,
+        finished,
+        unordered,
+        ordered,
+        n_bytes,
         table,
         pool,
         cumulative_tsn,
         new_cumulative_tsn,
         streams,
     );
-    let left = skipped.queue;
-    *si = left.si;
-    *next_ssn = left.next_ssn;
-    *max_message_size = left.max_message_size;
-    *finished = left.finished;
-    *unordered = left.unordered;
-    *ordered = left.ordered;
-    *n_bytes = left.n_bytes;
-    let answer = skipped.answer;
     sctp_receive_model::fragment_answers::forwarded(answer)
 }
 
@@ -312,14 +311,16 @@ pub extern "C" fn sctp_receive_reassembly_queue_get_num_bytes(
     ensures { told result n.new ≡ num_bytes (state_from si next_ssn max_message_size finished unordered ordered n_bytes table.now pool.now) }
 {
     let queue = ReassemblyQueue {
-        si,
-        next_ssn,
-        max_message_size,
-        finished,
-        unordered,
-        ordered,
-        n_bytes,
+        counts: Counts {
+            si,
+            next_ssn,
+            max_message_size,
+            finished,
+            unordered,
+            ordered,
+            n_bytes,
+        },
     };
     let answer = queue.get_num_bytes(table, pool);
-    sctp_receive_hand::number(answer, n)
+    sctp_receive_result::counted(answer, n)
 }

@@ -5,7 +5,7 @@ ghost use Rattle.chunk.specs.Header.{HeaderFront, header_read, header_checks};
 ghost use Rattle.sctp_receive_result.specs.Result.{told};
 
 use chunk::chunk_header;
-use chunk::chunk_header::Unmarshalled;
+use sctp_receive_result::refused;
 
 // Type, flags and length of the chunk that the lent bytes begin with; 1 and 2.
 #[unsafe(no_mangle)]
@@ -22,12 +22,12 @@ pub extern "C" fn sctp_receive_header_unmarshal(
     *size = 0;
     let answer = chunk_header::unmarshal(raw);
     match answer {
-        Unmarshalled::Header(h) => {
+        Ok(h) => {
             *typ = h.typ;
             *flags = h.flags;
             *size = h.length;
             -1
         }
-        Unmarshalled::Refused(k) => k as i32,
+        Err(e) => refused(e),
     }
 }

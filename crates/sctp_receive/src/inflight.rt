@@ -18,8 +18,8 @@ pub extern "C" fn sctp_receive_inflight_queue_new(count: &mut usize, n_bytes: &m
     ensures { flight_counts count.new n_bytes.new ≡ fresh }
 {
     let queue = InFlightQueue::new();
-    *count = queue.count;
-    *n_bytes = queue.n_bytes;
+    *count = queue.counts.count;
+    *n_bytes = queue.counts.n_bytes;
 }
 
 // Stores the chunk by its TSN, without a mark, and the number of its message beside it; 18 where the TSN is held, 8 where no room is left.
@@ -66,16 +66,11 @@ pub extern "C" fn sctp_receive_inflight_queue_mark_as_acked(
 ) -> i32
     ensures { (ms : List ℕ) → after (told result released.new) (flight_from count.new n_bytes.new table.new ms) ≡ marked_acked (flight_from count.old n_bytes.old table.old ms) tsn }
 {
-    let queue = InFlightQueue {
-        count: *count,
-        n_bytes: *n_bytes,
-    };
-    let called = queue.mark_as_acked(table, tsn);
-    let left = called.queue;
-    *count = left.count;
-    *n_bytes = left.n_bytes;
-    let answer = called.answer;
-    sctp_receive_answers::number(answer, released)
+    let mut queue = sctp_receive_flight::queue(*count, *n_bytes);
+    let answer = queue.mark_as_acked(table, tsn);
+    *count = queue.counts.count;
+    *n_bytes = queue.counts.n_bytes;
+    sctp_receive_result::counted(answer, released)
 }
 
 // Marks every chunk to be sent again that is neither acknowledged nor abandoned.
@@ -87,16 +82,8 @@ pub extern "C" fn sctp_receive_inflight_queue_mark_all_to_retransmit(
 ) -> i32
     ensures { (ms : List ℕ) → after (done result) (flight_from count.new n_bytes.new table.new ms) ≡ marked_all (flight_from count.old n_bytes.old table.old ms) }
 {
-    let queue = InFlightQueue {
-        count: *count,
-        n_bytes: *n_bytes,
-    };
-    let called = queue.mark_all_to_retransmit(table);
-    let left = called.queue;
-    *count = left.count;
-    *n_bytes = left.n_bytes;
-    let answer = called.answer;
-    sctp_receive_flight::done(answer)
+    let queue = sctp_receive_flight::queue(*count, *n_bytes);
+    sctp_receive_flight::done(queue.mark_all_to_retransmit(table))
 }
 
 // Abandons every chunk of this message, and releases their bytes: as many as they still held.
@@ -111,16 +98,11 @@ pub extern "C" fn sctp_receive_inflight_queue_abandon_message(
 ) -> i32
     ensures { after (told result released.new) (flight_from count.new n_bytes.new table.new messages.now) ≡ abandoned (flight_from count.old n_bytes.old table.old messages.now) message }
 {
-    let queue = InFlightQueue {
-        count: *count,
-        n_bytes: *n_bytes,
-    };
-    let called = queue.abandon_message(table, messages, message);
-    let left = called.queue;
-    *count = left.count;
-    *n_bytes = left.n_bytes;
-    let answer = called.answer;
-    sctp_receive_answers::number(answer, released)
+    let mut queue = sctp_receive_flight::queue(*count, *n_bytes);
+    let answer = queue.abandon_message(table, messages, message);
+    *count = queue.counts.count;
+    *n_bytes = queue.counts.n_bytes;
+    sctp_receive_result::counted(answer, released)
 }
 
 // Removes and gives the first chunk, if its TSN is this one; else nothing is found, and nothing changes.
@@ -148,15 +130,10 @@ pub extern "C" fn sctp_receive_inflight_queue_pop(
 ) -> i32
     ensures { after (told result (given_from (found_from found.new (values_from unordered.new beginning_fragment.new ending_fragment.new immediate_sack.new tsn.new stream_identifier.new stream_sequence_number.new payload_type.new) size.new) acked.new abandoned.new retransmit.new message_id.new)) (flight_from count.new n_bytes.new table.new messages.new) ≡ popped (flight_from count.old n_bytes.old table.old messages.old) wanted }
 {
-    let queue = InFlightQueue {
-        count: *count,
-        n_bytes: *n_bytes,
-    };
-    let called = queue.pop(table, messages, wanted);
-    let left = called.queue;
-    *count = left.count;
-    *n_bytes = left.n_bytes;
-    let answer = called.answer;
+    let mut queue = sctp_receive_flight::queue(*count, *n_bytes);
+    let answer = queue.pop(table, messages, wanted);
+    *count = queue.counts.count;
+    *n_bytes = queue.counts.n_bytes;
     let given = sctp_receive_sent::sent(answer);
     let chunk = given.chunk;
     *found = given.found;
@@ -187,15 +164,10 @@ pub extern "C" fn sctp_receive_inflight_queue_pop_up_to(
 ) -> i32
     ensures { after (done result) (flight_from count.new n_bytes.new table.new messages.new) ≡ popped_up_to (flight_from count.old n_bytes.old table.old messages.old) tsn }
 {
-    let queue = InFlightQueue {
-        count: *count,
-        n_bytes: *n_bytes,
-    };
-    let called = queue.pop_up_to(table, messages, tsn);
-    let left = called.queue;
-    *count = left.count;
-    *n_bytes = left.n_bytes;
-    let answer = called.answer;
+    let mut queue = sctp_receive_flight::queue(*count, *n_bytes);
+    let answer = queue.pop_up_to(table, messages, tsn);
+    *count = queue.counts.count;
+    *n_bytes = queue.counts.n_bytes;
     sctp_receive_flight::done(answer)
 }
 
@@ -224,9 +196,8 @@ pub extern "C" fn sctp_receive_inflight_queue_get(
 ) -> i32
     ensures { told result (given_from (found_from found.new (values_from unordered.new beginning_fragment.new ending_fragment.new immediate_sack.new tsn.new stream_identifier.new stream_sequence_number.new payload_type.new) size.new) acked.new abandoned.new retransmit.new message_id.new) ≡ got (flight_from count n_bytes table.now messages.now) wanted }
 {
-    let queue = InFlightQueue { count, n_bytes };
-    let answer = queue.get(table, messages, wanted);
-    let given = sctp_receive_sent::sent(answer);
+    let queue = sctp_receive_flight::queue(count, n_bytes);
+    let given = sctp_receive_sent::sent(queue.get(table, messages, wanted));
     let chunk = given.chunk;
     *found = given.found;
     *unordered = chunk.unordered;
@@ -255,9 +226,8 @@ pub extern "C" fn sctp_receive_inflight_queue_get_num_bytes(
 ) -> i32
     ensures { (ms : List ℕ) → told result n.new ≡ num_bytes (flight_from count n_bytes table.now ms) }
 {
-    let queue = InFlightQueue { count, n_bytes };
-    let answer = queue.get_num_bytes(table);
-    sctp_receive_answers::number(answer, n)
+    let queue = sctp_receive_flight::queue(count, n_bytes);
+    sctp_receive_result::counted(queue.get_num_bytes(table), n)
 }
 
 // How many TSNs are held.
@@ -270,9 +240,8 @@ pub extern "C" fn sctp_receive_inflight_queue_len(
 ) -> i32
     ensures { (ms : List ℕ) → told result n.new ≡ counted (flight_from count n_bytes table.now ms) }
 {
-    let queue = InFlightQueue { count, n_bytes };
-    let answer = queue.len(table);
-    sctp_receive_answers::number(answer, n)
+    let queue = sctp_receive_flight::queue(count, n_bytes);
+    sctp_receive_result::counted(queue.len(table), n)
 }
 
 // Whether none is held.
@@ -285,7 +254,6 @@ pub extern "C" fn sctp_receive_inflight_queue_is_empty(
 ) -> i32
     ensures { (ms : List ℕ) → told result is.new ≡ is_empty (flight_from count n_bytes table.now ms) }
 {
-    let queue = InFlightQueue { count, n_bytes };
-    let answer = queue.is_empty(table);
-    sctp_receive_answers::flag(answer, is)
+    let queue = sctp_receive_flight::queue(count, n_bytes);
+    sctp_receive_answers::flag(queue.is_empty(table), is)
 }

@@ -19,7 +19,7 @@ pub extern "C" fn sctp_receive_chunks_len(
 {
     let message = sctp_receive_hand::hand(bytes, position, given);
     let answer = message.len(buffer);
-    sctp_receive_hand::number(answer, n)
+    sctp_receive_result::counted(answer, n)
 }
 
 // Whether it has none.
@@ -52,7 +52,7 @@ pub extern "C" fn sctp_receive_chunks_read(
 {
     let message = sctp_receive_hand::hand(bytes, position, given);
     let answer = message.read(buffer, out);
-    sctp_receive_hand::number(answer, n)
+    sctp_receive_result::counted(answer, n)
 }
 
 // The place of the next piece, of at most so many bytes, if one comes.
@@ -69,9 +69,9 @@ pub extern "C" fn sctp_receive_chunks_next(
 ) -> i32
     ensures { after (told result (piece_from found.new piece_start.new piece_size.new)) (hand_from bytes.new position.new given.new) ≡ next_piece (hand_from bytes.old position.old given.old) buffer.now most }
 {
-    let message = sctp_receive_hand::hand(*bytes, *position, *given);
-    let next = message.next(buffer, most);
-    let left = sctp_receive_hand::piece(next);
+    let mut message = sctp_receive_hand::hand(*bytes, *position, *given);
+    let answer = message.next(buffer, most);
+    let left = sctp_receive_hand::piece(message, answer);
     *bytes = left.bytes;
     *position = left.position;
     *given = left.given;

@@ -6,7 +6,7 @@ ghost use Rattle.chunk_selective_ack.specs.Sack.{SackFront, sack_read, BlockFron
 ghost use Rattle.sctp_receive_result.specs.Result.{told};
 ghost use Rattle.sctp_receive_places.specs.Places.{span, blocks_span, duplicates_span};
 
-use chunk_selective_ack::{DuplicateTsnAt, GapAckBlockAt, Unmarshalled};
+use sctp_receive_result::{counted, refused};
 
 // The fields of the SACK chunk that the lent bytes begin with: cumulative TSN, a_rwnd, and the counts of the two lists; 1 2 3 5.
 #[unsafe(no_mangle)]
@@ -25,14 +25,14 @@ pub extern "C" fn sctp_receive_sack_unmarshal(
     *duplicates = 0;
     let answer = chunk_selective_ack::unmarshal(raw);
     match answer {
-        Unmarshalled::Fields(s) => {
+        Ok(s) => {
             *cumulative = s.cumulative_tsn_ack;
             *window = s.advertised_receiver_window_credit;
             *blocks = s.gap_ack_blocks;
             *duplicates = s.duplicate_tsns;
             -1
         }
-        Unmarshalled::Refused(k) => k as i32,
+        Err(e) => refused(e),
     }
 }
 
@@ -47,15 +47,15 @@ pub extern "C" fn sctp_receive_sack_gap_ack_blocks(
 {
     let answer = chunk_selective_ack::unmarshal(raw);
     match answer {
-        Unmarshalled::Fields(s) => {
+        Ok(s) => {
             *start = 16;
             *size = 4 * (s.gap_ack_blocks as usize);
             -1
         }
-        Unmarshalled::Refused(k) => {
+        Err(e) => {
             *start = 0;
             *size = 0;
-            k as i32
+            refused(e)
         }
     }
 }
@@ -71,15 +71,15 @@ pub extern "C" fn sctp_receive_sack_duplicate_tsns(
 {
     let answer = chunk_selective_ack::unmarshal(raw);
     match answer {
-        Unmarshalled::Fields(s) => {
+        Ok(s) => {
             *start = 16 + 4 * (s.gap_ack_blocks as usize);
             *size = 4 * (s.duplicate_tsns as usize);
             -1
         }
-        Unmarshalled::Refused(k) => {
+        Err(e) => {
             *start = 0;
             *size = 0;
-            k as i32
+            refused(e)
         }
     }
 }
@@ -96,15 +96,15 @@ pub extern "C" fn sctp_receive_sack_gap_ack_block_at(
 {
     let answer = chunk_selective_ack::gap_ack_block_at(part, i);
     match answer {
-        GapAckBlockAt::Block(b) => {
+        Ok(b) => {
             *start = b.start;
             *end = b.end;
             -1
         }
-        GapAckBlockAt::Refused(k) => {
+        Err(e) => {
             *start = 0;
             *end = 0;
-            k as i32
+            refused(e)
         }
     }
 }
@@ -116,13 +116,13 @@ pub extern "C" fn sctp_receive_sack_duplicate_tsn_at(part: &[u8], i: usize, tsn:
 {
     let answer = chunk_selective_ack::duplicate_tsn_at(part, i);
     match answer {
-        DuplicateTsnAt::Tsn(t) => {
+        Ok(t) => {
             *tsn = t;
             -1
         }
-        DuplicateTsnAt::Refused(k) => {
+        Err(e) => {
             *tsn = 0;
-            k as i32
+            refused(e)
         }
     }
 }
@@ -141,5 +141,5 @@ pub extern "C" fn sctp_receive_sack_marshal_to(
     ensures { written (told result n.new) out.new ≡ sack_written cumulative window starts.now ends.now duplicates.now out.old }
 {
     let answer = chunk_selective_ack::marshal_to(out, cumulative, window, starts, ends, duplicates);
-    sctp_receive_codecs::marshalled(answer, n)
+    counted(answer, n)
 }

@@ -9,7 +9,8 @@ ghost use Rattle.sctp_receive_values.specs.Fields.{chunk_from, values_from, foun
 ghost use Rattle.sctp_receive_counts.specs.States.{tsn_counts, tsns_from, handed_from};
 
 use data_fields::ChunkPayloadData;
-use payload_queue::{Done, LOG, PayloadQueue, WORDS};
+use payload_queue::{Counts, LOG, PayloadQueue, WORDS};
+use sctp_receive_counts::{of_counts, put_counts};
 
 // A fresh queue; the table may hold anything.
 #[unsafe(no_mangle)]
@@ -22,10 +23,8 @@ pub extern "C" fn sctp_receive_payload_queue_new(
     ensures { tsn_counts count.new n_bytes.new dups.new dup_tsn.new ≡ fresh }
 {
     let queue = PayloadQueue::new();
-    *count = queue.count;
-    *n_bytes = queue.n_bytes;
-    *dups = queue.dups;
-    let log = queue.dup_tsn;
+    put_counts(queue, count, n_bytes, dups);
+    let log = queue.counts.dup_tsn;
     *dup_tsn = log;
 }
 
@@ -43,7 +42,7 @@ pub extern "C" fn sctp_receive_payload_queue_can_push(
 ) -> i32
     ensures { told result is.new ≡ can_push (tsns_from count n_bytes dups dup_tsn.now table.now) tsn cumulative }
 {
-    let queue = sctp_receive_counts::of_counts(count, n_bytes, dups);
+    let queue = of_counts(count, n_bytes, dups);
     let answer = queue.can_push(table, tsn, cumulative);
     sctp_receive_answers::flag(answer, is)
 }
@@ -108,13 +107,9 @@ pub extern "C" fn sctp_receive_payload_queue_pop(
 ) -> i32
     ensures { after (told result (found_from found.new (values_from unordered.new beginning_fragment.new ending_fragment.new immediate_sack.new tsn.new stream_identifier.new stream_sequence_number.new payload_type.new) size.new)) (tsns_from count.new n_bytes.new dups.new dup_tsn.new table.new) ≡ popped (tsns_from count.old n_bytes.old dups.old dup_tsn.old table.old) wanted }
 {
-    let queue = sctp_receive_counts::of_counts(*count, *n_bytes, *dups);
-    let popped = queue.pop(table, wanted);
-    let left = popped.queue;
-    *count = left.count;
-    *n_bytes = left.n_bytes;
-    *dups = left.dups;
-    let answer = popped.answer;
+    let mut queue = of_counts(*count, *n_bytes, *dups);
+    let answer = queue.pop(table, wanted);
+    put_counts(queue, count, n_bytes, dups);
     let given = sctp_receive_answers::taken(answer);
     let chunk = given.chunk;
     *found = given.found;
@@ -142,16 +137,12 @@ pub extern "C" fn sctp_receive_payload_queue_pop_up_to(
 ) -> i32
     ensures { after (done result) (tsns_from count.new n_bytes.new dups.new dup_tsn.new table.new) ≡ popped_up_to (tsns_from count.old n_bytes.old dups.old dup_tsn.old table.old) tsn }
 {
-    let queue = sctp_receive_counts::of_counts(*count, *n_bytes, *dups);
-    let dropped = queue.pop_up_to(table, tsn);
-    let left = dropped.queue;
-    *count = left.count;
-    *n_bytes = left.n_bytes;
-    *dups = left.dups;
-    let answer = dropped.answer;
+    let mut queue = of_counts(*count, *n_bytes, *dups);
+    let answer = queue.pop_up_to(table, tsn);
+    put_counts(queue, count, n_bytes, dups);
     match answer {
-        Done::All => -1,
-        Done::Refused(k) => k as i32,
+        Ok(()) => -1,
+        Err(e) => sctp_receive_result::refused(e),
     }
 }
 
@@ -192,21 +183,29 @@ pub extern "C" fn sctp_receive_payload_queue_pop_duplicates(
 ) -> i32
     ensures { after (told result (handed_from n.new tsns.new)) (tsns_from count.new n_bytes.new dups.new dup_tsn.new table.now) ≡ popped_duplicates (tsns_from count.old n_bytes.old dups.old dup_tsn.old table.now) }
 {
-    let queue = PayloadQueue {
-        count: *count,
-        n_bytes: *n_bytes,
-        dups: *dups,
-        dup_tsn: *dup_tsn,
+    let mut queue = PayloadQueue {
+        counts: Counts {
+            count: *count,
+            n_bytes: *n_bytes,
+            dups: *dups,
+            dup_tsn: *dup_tsn,
+        },
     };
-    let handed = queue.pop_duplicates(table);
-    let left = handed.queue;
-    *count = left.count;
-    *n_bytes = left.n_bytes;
-    *dups = left.dups;
-    let log = left.dup_tsn;
+    let answer = queue.pop_duplicates(table);
+    put_counts(queue, count, n_bytes, dups);
+    let log = queue.counts.dup_tsn;
     *dup_tsn = log;
-    let places = handed.tsns;
-    *tsns = places;
-    let answer = handed.answer;
-    sctp_receive_answers::number(answer, n)
+    match answer {
+        Ok(handed) => {
+            *n = handed.count;
+            let places = handed.tsns;
+            *tsns = places;
+            -1
+        }
+        Err(e) => {
+            *n = 0;
+            *tsns = [0u32; LOG];
+            sctp_receive_result::refused(e)
+        }
+    }
 }

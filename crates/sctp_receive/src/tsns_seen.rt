@@ -6,7 +6,7 @@ ghost use Rattle.sctp_receive_result.specs.Result.{told};
 ghost use Rattle.sctp_receive_values.specs.Fields.{values_from, found_from};
 ghost use Rattle.sctp_receive_counts.specs.States.{tsns_from, last_from};
 
-use payload_queue::{LOG, LastTsn, WORDS};
+use payload_queue::{LOG, WORDS};
 
 // The chunk that is held with this TSN, if there is one.
 #[unsafe(no_mangle)]
@@ -64,7 +64,7 @@ pub extern "C" fn sctp_receive_payload_queue_get_gap_ack_blocks(
 {
     let queue = sctp_receive_counts::of_counts(count, n_bytes, dups);
     let answer = queue.get_gap_ack_blocks(table, cumulative, starts, ends);
-    sctp_receive_answers::number(answer, n)
+    sctp_receive_result::counted(answer, n)
 }
 
 // The TSN that stands last, if there is one.
@@ -83,15 +83,14 @@ pub extern "C" fn sctp_receive_payload_queue_get_last_tsn_received(
     *found = false;
     *tsn = 0;
     let queue = sctp_receive_counts::of_counts(count, n_bytes, dups);
-    let answer = queue.get_last_tsn_received(table);
-    match answer {
-        LastTsn::Tsn(t) => {
+    match queue.get_last_tsn_received(table) {
+        Ok(Some(t)) => {
             *found = true;
             *tsn = t;
             -1
         }
-        LastTsn::Nothing => -1,
-        LastTsn::Refused(k) => k as i32,
+        Ok(None) => -1,
+        Err(e) => sctp_receive_result::refused(e),
     }
 }
 
@@ -109,7 +108,7 @@ pub extern "C" fn sctp_receive_payload_queue_get_num_bytes(
 {
     let queue = sctp_receive_counts::of_counts(count, n_bytes, dups);
     let answer = queue.get_num_bytes(table);
-    sctp_receive_answers::number(answer, n)
+    sctp_receive_result::counted(answer, n)
 }
 
 // How many TSNs are held.
@@ -126,7 +125,7 @@ pub extern "C" fn sctp_receive_payload_queue_len(
 {
     let queue = sctp_receive_counts::of_counts(count, n_bytes, dups);
     let answer = queue.len(table);
-    sctp_receive_answers::number(answer, n)
+    sctp_receive_result::counted(answer, n)
 }
 
 // Whether none is held.

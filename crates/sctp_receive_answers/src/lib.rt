@@ -1,44 +1,31 @@
-// The TSN queue's answers, taken apart for C: one value goes through its reference, a chunk's come back by value; 0 and false beside a refusal, and the result is -1 or
-// the refusal's number.
+// The TSN queue's answers, taken apart for C: yes or no goes through its reference, a chunk's values come back by value; 0 and false beside a refusal, and the result is
+// -1 or the refusal's number.
 #![tactic(auto)]
 
 ghost use Rattle.std.specs.Prelude.{◌≡◌};
 ghost use Rattle.payload_model.specs.Queue.{nothing};
-ghost use Rattle.payload_model.specs.Answers.{flag_told, number_told, taken_told};
+ghost use Rattle.payload_model.specs.Answers.{taken_told};
+ghost use Rattle.refusal.specs.Told.{flag_told};
 ghost use Rattle.sctp_receive_result.specs.Result.{told, back};
 ghost use Rattle.sctp_receive_values.specs.Fields.{values_from, found_from};
 
 use data_fields::ChunkPayloadData;
-use payload_queue::{Flag, Number, Taken};
+use payload_queue::Queued;
+use refusal::Refusal;
+use sctp_receive_result::refused;
 
 // Yes or no.
-pub fn flag(answer: Flag, is: &mut bool) -> i32
+pub fn flag(answer: Result<bool, Refusal>, is: &mut bool) -> i32
     ensures { told (back result) is.new ≡ flag_told answer }
 {
     match answer {
-        Flag::Is(b) => {
+        Ok(b) => {
             *is = b;
             -1
         }
-        Flag::Refused(k) => {
+        Err(e) => {
             *is = false;
-            k as i32
-        }
-    }
-}
-
-// A number.
-pub fn number(answer: Number, n: &mut usize) -> i32
-    ensures { told (back result) n.new ≡ number_told answer }
-{
-    match answer {
-        Number::Is(k) => {
-            *n = k;
-            -1
-        }
-        Number::Refused(k) => {
-            *n = 0;
-            k as i32
+            refused(e)
         }
     }
 }
@@ -53,21 +40,19 @@ pub struct TakenChunk {
 }
 
 // A chunk with its data length, if one was found.
-pub fn taken(answer: Taken) -> TakenChunk
+#[tactic(auto, unfolding(data_fields::specs::Fields::data_held, payload_model::specs::Answers::queued_found))]
+pub fn taken(answer: Result<Option<Queued>, Refusal>) -> TakenChunk
     ensures { told (back result.code) (found_from result.found (values_from result.chunk.unordered result.chunk.beginning_fragment result.chunk.ending_fragment result.chunk.immediate_sack result.chunk.tsn result.chunk.stream_identifier result.chunk.stream_sequence_number result.chunk.payload_type) result.size) ≡ taken_told answer }
 {
     match answer {
-        Taken::Chunk(q) => {
-            let chunk = q.chunk;
-            TakenChunk {
-                code: -1,
-                found: true,
-                chunk,
-                size: q.size,
-            }
-        }
-        Taken::Nothing => none_taken(-1),
-        Taken::Refused(k) => none_taken(k as i32),
+        Ok(Some(q)) => TakenChunk {
+            code: -1,
+            found: true,
+            chunk: q.chunk,
+            size: q.size,
+        },
+        Ok(None) => none_taken(-1),
+        Err(e) => none_taken(refused(e)),
     }
 }
 

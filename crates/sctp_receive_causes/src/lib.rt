@@ -18,7 +18,7 @@ pub fn error_unmarshal(
     ensures { report (told result n.new) (lists codes.new depths.new starts.new sizes.new) ≡ reported 9 raw.now (lists codes.old depths.old starts.old sizes.old) }
 {
     let answer = chunk_error::unmarshal(raw, codes, depths, starts, sizes);
-    sctp_receive_cause_count::counted(answer, n)
+    sctp_receive_result::counted(answer, n)
 }
 
 // The causes of the ABORT chunk that the lent bytes begin with; 1 2 3 16 10.
@@ -33,5 +33,5 @@ pub fn abort_unmarshal(
     ensures { report (told result n.new) (lists codes.new depths.new starts.new sizes.new) ≡ reported 6 raw.now (lists codes.old depths.old starts.old sizes.old) }
 {
     let answer = chunk_abort::unmarshal(raw, codes, depths, starts, sizes);
-    sctp_receive_cause_count::counted(answer, n)
+    sctp_receive_result::counted(answer, n)
 }

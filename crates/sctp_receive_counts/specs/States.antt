@@ -7,7 +7,7 @@ use Rattle.payload_queue.specs.declared.PayloadQueue.{PayloadQueue}
 
 -- its counts and its log
 abbrev pub tsn_counts : ℕ → ℕ → ℕ → List ℕ → PayloadQueue
-tsn_counts count bytes dups log = record { count = count; n_bytes = bytes; dups = dups; dup_tsn = log }
+tsn_counts count bytes dups log = record { counts = record { count = count; n_bytes = bytes; dups = dups; dup_tsn = log } }
 
 -- these, and the words lent beside them
 abbrev pub tsns_from : ℕ → ℕ → ℕ → List ℕ → List ℕ → Queue

@@ -6,27 +6,29 @@ ghost use Rattle.payload_model.specs.Log.{noted};
 ghost use Rattle.payload_model.specs.Queue.{zeros};
 ghost use Rattle.sctp_receive_counts.specs.States.{tsn_counts};
 
-use payload_queue::{LOG, PayloadQueue};
+use payload_queue::{Counts, LOG, PayloadQueue};
 
 // The queue of the counts that C keeps, with a log of zeros: C's own log stays where it is, since only pop_duplicates looks at it.
 pub fn of_counts(count: usize, n_bytes: usize, dups: usize) -> PayloadQueue
     ensures { result ≡ tsn_counts count n_bytes dups zeros }
 {
     PayloadQueue {
-        count,
-        n_bytes,
-        dups,
-        dup_tsn: [0u32; LOG],
+        counts: Counts {
+            count,
+            n_bytes,
+            dups,
+            dup_tsn: [0u32; LOG],
+        },
     }
 }
 
 // The queue's counts, put back into the fields that C keeps.
 pub fn put_counts(queue: PayloadQueue, count: &mut usize, n_bytes: &mut usize, dups: &mut usize)
-    ensures { tsn_counts count.new n_bytes.new dups.new queue.dup_tsn ≡ queue }
+    ensures { tsn_counts count.new n_bytes.new dups.new queue.counts.dup_tsn ≡ queue }
 {
-    *count = queue.count;
-    *n_bytes = queue.n_bytes;
-    *dups = queue.dups;
+    *count = queue.counts.count;
+    *n_bytes = queue.counts.n_bytes;
+    *dups = queue.counts.dups;
 }
 
 // A TSN, put behind the first ones of the log where it now holds more than those.

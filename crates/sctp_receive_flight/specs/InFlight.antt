@@ -7,7 +7,7 @@ use Rattle.inflight_queue.specs.Queue.{queue_of}
 use Rattle.inflight_queue.specs.declared.InFlightQueue.{InFlightQueue}
 
 abbrev pub flight_counts : ℕ → ℕ → InFlightQueue
-flight_counts count bytes = record { count = count; n_bytes = bytes }
+flight_counts count bytes = record { counts = record { count = count; n_bytes = bytes } }
 
 -- its counts, and the words and numbers lent beside them
 abbrev pub flight_from : ℕ → ℕ → List ℕ → List ℕ → Queue

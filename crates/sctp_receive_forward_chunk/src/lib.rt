@@ -6,7 +6,7 @@ ghost use Rattle.chunk_forward_tsn.specs.ForwardTsn.{forward, ForwardFront, forw
 ghost use Rattle.sctp_receive_result.specs.Result.{told, back};
 ghost use Rattle.sctp_receive_places.specs.Places.{span, pairs_span};
 
-use chunk_forward_tsn::Unmarshalled;
+use sctp_receive_result::refused;
 
 // The new cumulative TSN of the FORWARD TSN chunk that the lent bytes begin with, and how many pairs stand behind it; 1 2 3 12.
 pub fn unmarshal(raw: &[u8], new_cumulative_tsn: &mut u32, streams: &mut u16) -> i32
@@ -14,15 +14,15 @@ pub fn unmarshal(raw: &[u8], new_cumulative_tsn: &mut u32, streams: &mut u16) ->
 {
     let answer = chunk_forward_tsn::unmarshal(raw);
     match answer {
-        Unmarshalled::Fields(f) => {
+        Ok(f) => {
             *new_cumulative_tsn = f.new_cumulative_tsn;
             *streams = f.streams;
             -1
         }
-        Unmarshalled::Refused(k) => {
+        Err(e) => {
             *new_cumulative_tsn = 0;
             *streams = 0;
-            k as i32
+            refused(e)
         }
     }
 }
@@ -33,15 +33,15 @@ pub fn streams(raw: &[u8], start: &mut usize, size: &mut usize) -> i32
 {
     let answer = chunk_forward_tsn::unmarshal(raw);
     match answer {
-        Unmarshalled::Fields(f) => {
+        Ok(f) => {
             *start = 8;
             *size = 4 * (f.streams as usize);
             -1
         }
-        Unmarshalled::Refused(k) => {
+        Err(e) => {
             *start = 0;
             *size = 0;
-            k as i32
+            refused(e)
         }
     }
 }

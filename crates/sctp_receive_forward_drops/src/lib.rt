@@ -7,8 +7,6 @@ ghost use Rattle.forward_tsn_drops.specs.Drops.{applied_to_tsns};
 ghost use Rattle.sctp_receive_result.specs.Result.{done, back};
 ghost use Rattle.sctp_receive_counts.specs.States.{tsns_from};
 
-use payload_queue::Done;
-
 // Drops the TSNs up to the new cumulative one; nothing where that is at or before the cumulative one. C's log stays as it is.
 pub fn apply_to_tsns(
     count: &mut usize,
@@ -21,18 +19,16 @@ pub fn apply_to_tsns(
 ) -> i32
     ensures { tsns.after (done (back result)) (tsns_from count.new n_bytes.new dups.new dup_tsn.new table.new) ≡ applied_to_tsns (tsns_from count.old n_bytes.old dups.old dup_tsn.old table.old) cumulative_tsn new_cumulative_tsn }
 {
-    let queue = sctp_receive_counts::of_counts(*count, *n_bytes, *dups);
-    let dropped = forward_tsn_drops::apply_to_tsns(
-        queue,
+    let mut queue = sctp_receive_counts::of_counts(*count, *n_bytes, *dups);
+    let answer = forward_tsn_drops::apply_to_tsns(
+        &mut queue,
         table,
         cumulative_tsn,
         new_cumulative_tsn,
     );
-    let left = dropped.queue;
-    sctp_receive_counts::put_counts(left, count, n_bytes, dups);
-    let answer = dropped.answer;
+    sctp_receive_counts::put_counts(queue, count, n_bytes, dups);
     match answer {
-        Done::All => -1,
-        Done::Refused(k) => k as i32,
+        Ok(()) => -1,
+        Err(e) => sctp_receive_result::refused(e),
     }
 }

@@ -7,7 +7,7 @@ ghost use Rattle.chunk_forward_tsn.specs.Layout.{pair};
 ghost use Rattle.chunk_forward_tsn.specs.ForwardTsn.{PairFront, pair_read, forward_written};
 ghost use Rattle.sctp_receive_result.specs.Result.{told, back};
 
-use chunk_forward_tsn::StreamAt;
+use sctp_receive_result::{counted, refused};
 
 // The stream and SSN at an index of such a part; 11.
 pub fn stream_at(part: &[u8], i: usize, identifier: &mut u16, sequence: &mut u16) -> i32
@@ -15,15 +15,15 @@ pub fn stream_at(part: &[u8], i: usize, identifier: &mut u16, sequence: &mut u16
 {
     let answer = chunk_forward_tsn::stream_at(part, i);
     match answer {
-        StreamAt::Stream(s) => {
+        Ok(s) => {
             *identifier = s.identifier;
             *sequence = s.sequence;
             -1
         }
-        StreamAt::Refused(k) => {
+        Err(e) => {
             *identifier = 0;
             *sequence = 0;
-            k as i32
+            refused(e)
         }
     }
 }
@@ -39,5 +39,5 @@ pub fn marshal_to(
     ensures { written (told result n.new) out.new ≡ forward_written new_cumulative_tsn identifiers.now sequences.now out.old }
 {
     let answer = chunk_forward_tsn::marshal_to(out, new_cumulative_tsn, identifiers, sequences);
-    sctp_receive_codecs::marshalled(answer, n)
+    counted(answer, n)
 }

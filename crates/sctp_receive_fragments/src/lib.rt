@@ -7,7 +7,9 @@ ghost use Rattle.reassembly_applicable.specs.Answers.{applicable_told};
 ghost use Rattle.sctp_receive_result.specs.Result.{told, back};
 ghost use Rattle.sctp_receive_model.specs.States.{fragment_counts, message_from, found_from};
 
-use reassembly_queue::{Applicable, Taken, Took};
+use chunks::Chunks;
+use reassembly_queue::ReassemblyQueue;
+use refusal::Refusal;
 
 // What a take leaves and tells, each number by itself, as C has it: storing these one by one is cheaper to prove than lending C's places on.
 #[derive(Clone, Copy)]
@@ -29,18 +31,18 @@ pub struct TakenMessage {
 }
 
 // The queue that is left, and a message, if one was taken.
-pub fn taken(took: Taken) -> TakenMessage
-    ensures { (fragment_counts result.si result.next_ssn result.max_message_size result.finished result.unordered result.ordered result.n_bytes ≡ took.queue) × (told (back result.code) (message_from result.found result.ssn result.ppi result.bytes result.position result.given) ≡ took_told took.answer) }
+pub fn taken(queue: ReassemblyQueue, answer: Result<Option<Chunks>, Refusal>) -> TakenMessage
+    ensures { (fragment_counts result.si result.next_ssn result.max_message_size result.finished result.unordered result.ordered result.n_bytes ≡ queue) × (told (back result.code) (message_from result.found result.ssn result.ppi result.bytes result.position result.given) ≡ took_told answer) }
 {
-    let queue = took.queue;
+    let counts = queue.counts;
     let mut parts = TakenMessage {
-        si: queue.si,
-        next_ssn: queue.next_ssn,
-        max_message_size: queue.max_message_size,
-        finished: queue.finished,
-        unordered: queue.unordered,
-        ordered: queue.ordered,
-        n_bytes: queue.n_bytes,
+        si: counts.si,
+        next_ssn: counts.next_ssn,
+        max_message_size: counts.max_message_size,
+        finished: counts.finished,
+        unordered: counts.unordered,
+        ordered: counts.ordered,
+        n_bytes: counts.n_bytes,
         found: false,
         ssn: 0,
         ppi: 0,
@@ -49,9 +51,8 @@ pub fn taken(took: Taken) -> TakenMessage
         given: false,
         code: -1,
     };
-    let answer = took.answer;
     match answer {
-        Took::Message(m) => {
+        Ok(Some(m)) => {
             parts.found = true;
             parts.ssn = m.ssn;
             parts.ppi = m.ppi;
@@ -59,25 +60,25 @@ pub fn taken(took: Taken) -> TakenMessage
             parts.position = m.position;
             parts.given = m.given;
         }
-        Took::Nothing => {}
-        Took::Refused(k) => parts.code = k as i32,
+        Ok(None) => {}
+        Err(reason) => parts.code = sctp_receive_result::refused(reason),
     }
     parts
 }
 
 // The SSN up to which a skip applies, if there is one.
-pub fn applicable(answer: Applicable, found: &mut bool, ssn: &mut u16) -> i32
+pub fn applicable(answer: Result<Option<u16>, Refusal>, found: &mut bool, ssn: &mut u16) -> i32
     ensures { told (back result) (found_from found.new ssn.new) ≡ applicable_told answer }
 {
     *found = false;
     *ssn = 0;
     match answer {
-        Applicable::Ssn(n) => {
+        Ok(Some(n)) => {
             *found = true;
             *ssn = n;
             -1
         }
-        Applicable::Nothing => -1,
-        Applicable::Refused(k) => k as i32,
+        Ok(None) => -1,
+        Err(reason) => sctp_receive_result::refused(reason),
     }
 }

@@ -3,11 +3,13 @@
 #![tactic(auto)]
 
 ghost use Rattle.std.specs.Prelude.{◌≡◌};
-ghost use Rattle.chunks.specs.Message.{flag_told, number_told, piece_told};
+ghost use Rattle.refusal.specs.Told.{flag_told};
+ghost use Rattle.chunks.specs.Message.{piece_told};
 ghost use Rattle.sctp_receive_result.specs.Result.{told, back};
 ghost use Rattle.sctp_receive_model.specs.States.{hand_from, piece_from};
 
-use chunks::{Chunks, Flag, Next, Number, Piece};
+use chunks::{Chunks, Part};
+use refusal::Refusal;
 
 // The message of these fields. Its SSN and its identifier play no part in its calls.
 pub fn hand(bytes: usize, position: usize, given: bool) -> Chunks
@@ -23,33 +25,17 @@ pub fn hand(bytes: usize, position: usize, given: bool) -> Chunks
 }
 
 // Yes or no.
-pub fn flag(answer: Flag, is: &mut bool) -> i32
+pub fn flag(answer: Result<bool, Refusal>, is: &mut bool) -> i32
     ensures { told (back result) is.new ≡ flag_told answer }
 {
     match answer {
-        Flag::Is(b) => {
+        Ok(b) => {
             *is = b;
             -1
         }
-        Flag::Refused(k) => {
+        Err(reason) => {
             *is = false;
-            k as i32
-        }
-    }
-}
-
-// A number.
-pub fn number(answer: Number, n: &mut usize) -> i32
-    ensures { told (back result) n.new ≡ number_told answer }
-{
-    match answer {
-        Number::Is(k) => {
-            *n = k;
-            -1
-        }
-        Number::Refused(k) => {
-            *n = 0;
-            k as i32
+            sctp_receive_result::refused(reason)
         }
     }
 }
@@ -67,10 +53,9 @@ pub struct NextPiece {
 }
 
 // The message that is left, and the place of a piece, if one comes.
-pub fn piece(next: Next) -> NextPiece
-    ensures { (hand_from result.bytes result.position result.given ≡ hand_from next.message.size next.message.position next.message.given) × (told (back result.code) (piece_from result.found result.start result.size) ≡ piece_told next.answer) }
+pub fn piece(message: Chunks, answer: Result<Option<Part>, Refusal>) -> NextPiece
+    ensures { (hand_from result.bytes result.position result.given ≡ hand_from message.size message.position message.given) × (told (back result.code) (piece_from result.found result.start result.size) ≡ piece_told answer) }
 {
-    let message = next.message;
     let mut parts = NextPiece {
         bytes: message.size,
         position: message.position,
@@ -80,15 +65,14 @@ pub fn piece(next: Next) -> NextPiece
         size: 0,
         code: -1,
     };
-    let answer = next.answer;
     match answer {
-        Piece::At(p) => {
+        Ok(Some(p)) => {
             parts.found = true;
             parts.start = p.start;
             parts.size = p.size;
         }
-        Piece::Nothing => {}
-        Piece::Refused(k) => parts.code = k as i32,
+        Ok(None) => {}
+        Err(reason) => parts.code = sctp_receive_result::refused(reason),
     }
     parts
 }

@@ -8,7 +8,7 @@ ghost use Rattle.sctp_receive_result.specs.Result.{done};
 ghost use Rattle.sctp_receive_flight.specs.InFlight.{flight_from};
 
 use data_fields::ChunkPayloadData;
-use inflight_queue::{InFlightQueue, TSNS, WORDS};
+use inflight_queue::{TSNS, WORDS};
 
 // Stores the chunk by its TSN, and the number of its message beside it; 18 where the TSN is held, 8 where no room is left.
 pub fn push_no_check(
@@ -22,14 +22,9 @@ pub fn push_no_check(
 ) -> i32
     ensures { after (done result) (flight_from count.new n_bytes.new table.new messages.new) ≡ pushed_no_check (flight_from count.old n_bytes.old table.old messages.old) (row_of chunk size) message }
 {
-    let queue = InFlightQueue {
-        count: *count,
-        n_bytes: *n_bytes,
-    };
-    let pushed = queue.push_no_check(table, messages, chunk, size, message);
-    let left = pushed.queue;
-    *count = left.count;
-    *n_bytes = left.n_bytes;
-    let answer = pushed.answer;
+    let mut queue = sctp_receive_flight::queue(*count, *n_bytes);
+    let answer = queue.push_no_check(table, messages, chunk, size, message);
+    *count = queue.counts.count;
+    *n_bytes = queue.counts.n_bytes;
     sctp_receive_flight::done(answer)
 }

@@ -13,7 +13,7 @@ use Rattle.reassembly_queue.specs.declared.ReassemblyQueue.{ReassemblyQueue}
 
 abbrev pub fragment_counts : ℕ → ℕ → ℕ → ℕ → ℕ → ℕ → ℕ → ReassemblyQueue
 fragment_counts si next max finished unordered ordered bytes =
-    record { si = si; next_ssn = next; max_message_size = max; finished = finished; unordered = unordered; ordered = ordered; n_bytes = bytes }
+    record { counts = record { si = si; next_ssn = next; max_message_size = max; finished = finished; unordered = unordered; ordered = ordered; n_bytes = bytes } }
 
 -- its numbers, and the words and bytes lent beside them
 abbrev pub state_from : ℕ → ℕ → ℕ → ℕ → ℕ → ℕ → ℕ → List ℕ → List ℕ → State

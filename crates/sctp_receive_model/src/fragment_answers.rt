@@ -3,14 +3,14 @@ ghost use Rattle.std.specs.Prelude.{◌≡◌};
 ghost use Rattle.reassembly_state.specs.Answers.{done_told};
 ghost use Rattle.sctp_receive_result.specs.Result.{back, done};
 
-use reassembly_queue::Done;
+use refusal::Refusal;
 
 // Whether a skip was done: -1, or the refusal's number.
-pub fn forwarded(answer: Done) -> i32
+pub fn forwarded(answer: Result<(), Refusal>) -> i32
     ensures { done (back result) ≡ done_told answer }
 {
     match answer {
-        Done::All => -1,
-        Done::Refused(k) => k as i32,
+        Ok(()) => -1,
+        Err(reason) => sctp_receive_result::refused(reason),
     }
 }

@@ -5,7 +5,7 @@ ghost use Rattle.std.specs.Prelude.{◌≡◌};
 ghost use Rattle.sctp_receive_result.specs.Result.{told, back};
 ghost use Rattle.sctp_receive_packet_chunks.specs.Stops.{stop, stop_at};
 
-use packet_chunks::Step;
+use sctp_receive_result::refused;
 
 // The chunk at a place of the packet, whose first is 12: where it ends and what follows it, or that the walk is over; 11 1 2.
 pub fn chunk_at(
@@ -20,15 +20,14 @@ pub fn chunk_at(
     *found = false;
     *end = 0;
     *next = 0;
-    let step = packet_chunks::chunk_at(packet, at);
-    match step {
-        Step::Chunk(f) => {
+    match packet_chunks::chunk_at(packet, at) {
+        Ok(Some(f)) => {
             *found = true;
             *end = f.end;
             *next = f.next;
             -1
         }
-        Step::End => -1,
-        Step::Refused(k) => k as i32,
+        Ok(None) => -1,
+        Err(e) => refused(e),
     }
 }

@@ -25,5 +25,5 @@ pub fn marshal_to(
         verification_tag,
         chunks,
     );
-    sctp_receive_codecs::marshalled(answer, n)
+    sctp_receive_result::counted(answer, n)
 }

@@ -6,7 +6,7 @@ ghost use Rattle.packet.specs.Layout.{common};
 ghost use Rattle.packet.specs.Header.{CommonFront, common_read};
 ghost use Rattle.sctp_receive_result.specs.Result.{told, back};
 
-use packet::Unmarshalled;
+use sctp_receive_result::refused;
 
 // The common header of the packet, if its checksum is right; 13 and 14.
 pub fn unmarshal(
@@ -17,19 +17,18 @@ pub fn unmarshal(
 ) -> i32
     ensures { (f : CommonFront raw.now) → told (back result) (common source_port.new destination_port.new verification_tag.new) ≡ common_read raw.now f.fields }
 {
-    let answer = packet::unmarshal(raw);
-    match answer {
-        Unmarshalled::Header(h) => {
+    match packet::unmarshal(raw) {
+        Ok(h) => {
             *source_port = h.source_port;
             *destination_port = h.destination_port;
             *verification_tag = h.verification_tag;
             -1
         }
-        Unmarshalled::Refused(k) => {
+        Err(e) => {
             *source_port = 0;
             *destination_port = 0;
             *verification_tag = 0;
-            k as i32
+            refused(e)
         }
     }
 }

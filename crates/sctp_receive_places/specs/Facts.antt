@@ -13,7 +13,7 @@ use Rattle.chunk_forward_tsn.specs.ForwardTsn.{forward_checks, pairs_part}
 use Rattle.sctp_receive_places.specs.Places.{Span, span, user_span, blocks_span, duplicates_span, pairs_span}
 
 -- the part of lent bytes at a place
-abbrev pub part_at : Told Span → Bor (List ℕ) → Part
+abbrev pub part_at : Told Span → Bor (List ℕ) → Told Part
 part_at t raw = part_of t.refusal t.values.start t.values.size raw
 
 placed : (k : Refusal) (start size : ℕ) (raw : Bor (List ℕ)) → part_at (answer (span 0 0) k (span start size)) raw ≡ part_of k start size raw

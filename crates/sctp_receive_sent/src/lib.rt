@@ -9,7 +9,8 @@ ghost use Rattle.sctp_receive_values.specs.Fields.{values_from, found_from};
 ghost use Rattle.sctp_receive_flight.specs.InFlight.{given_from};
 
 use data_fields::ChunkPayloadData;
-use inflight_queue::TakenSent;
+use inflight_queue::Sent;
+use refusal::Refusal;
 
 // The result, and each value that goes to C through a reference of its own.
 #[derive(Clone, Copy)]
@@ -25,17 +26,17 @@ pub struct SentChunk {
 }
 
 // A chunk with its data length, its marks and its message's number, if one was found.
-pub fn sent(answer: TakenSent) -> SentChunk
+#[tactic(auto, unfolding(data_fields::specs::Fields::data_held, payload_model::specs::Answers::queued_found, inflight_model::specs::Answers::sent_given))]
+pub fn sent(answer: Result<Option<Sent>, Refusal>) -> SentChunk
     ensures { told (back result.code) (given_from (found_from result.found (values_from result.chunk.unordered result.chunk.beginning_fragment result.chunk.ending_fragment result.chunk.immediate_sack result.chunk.tsn result.chunk.stream_identifier result.chunk.stream_sequence_number result.chunk.payload_type) result.size) result.acked result.abandoned result.retransmit result.message_id) ≡ taken_told answer }
 {
     match answer {
-        TakenSent::Chunk(s) => {
+        Ok(Some(s)) => {
             let q = s.queued;
-            let chunk = q.chunk;
             SentChunk {
                 code: -1,
                 found: true,
-                chunk,
+                chunk: q.chunk,
                 size: q.size,
                 acked: s.acked,
                 abandoned: s.abandoned,
@@ -43,8 +44,8 @@ pub fn sent(answer: TakenSent) -> SentChunk
                 message_id: s.message_id,
             }
         }
-        TakenSent::Nothing => none_sent(-1),
-        TakenSent::Refused(k) => none_sent(k as i32),
+        Ok(None) => none_sent(-1),
+        Err(reason) => none_sent(sctp_receive_result::refused(reason)),
     }
 }
 

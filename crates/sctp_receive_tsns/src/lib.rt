@@ -9,7 +9,7 @@ ghost use Rattle.sctp_receive_counts.specs.States.{tsns_from};
 use data_fields::ChunkPayloadData;
 use payload_queue::{LOG, WORDS};
 use sctp_receive_answers::flag;
-use sctp_receive_counts::{note, of_counts};
+use sctp_receive_counts::{note, of_counts, put_counts};
 
 // Stores the chunk by its TSN, or logs its TSN where it is held or old; 17 where it is opposite to the cumulative one, 8 where no room is left.
 pub fn push(
@@ -26,13 +26,9 @@ pub fn push(
     ensures { after (told result is.new) (tsns_from count.new n_bytes.new dups.new dup_tsn.new table.new) ≡ pushed (tsns_from count.old n_bytes.old dups.old dup_tsn.old table.old) (row_of chunk size) cumulative }
 {
     let at = *dups;
-    let queue = of_counts(*count, *n_bytes, at);
-    let pushed = queue.push(table, chunk, size, cumulative);
-    let left = pushed.queue;
-    *count = left.count;
-    *n_bytes = left.n_bytes;
-    *dups = left.dups;
-    note(dup_tsn, at, left.dups, chunk.tsn);
-    let answer = pushed.answer;
+    let mut queue = of_counts(*count, *n_bytes, at);
+    let answer = queue.push(table, chunk, size, cumulative);
+    put_counts(queue, count, n_bytes, dups);
+    note(dup_tsn, at, queue.counts.dups, chunk.tsn);
     flag(answer, is)
 }

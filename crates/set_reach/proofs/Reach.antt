@@ -8,6 +8,7 @@ use native.Mathlib.Omega.{arith}
 use lib.Dec.{eqb}
 use lib.ListN.{length, get_or, take, drop}
 use borrow.Author.Tests.{eq-eqb, ne_eqb}
+use Rattle.std.specs.List.{list_all}
 use Rattle.serial_model.specs.Serial.{next, at_or_before}
 use Rattle.table.specs.Rows.{blank, rows_of}
 use Rattle.table.specs.declared.Row.{Row}
@@ -19,14 +20,6 @@ use Rattle.loose_fragments.specs.Loose.{previous}
 use Rattle.set_reach.specs.Reach.{all_up_to, gap_up_to, missing_up_to}
 
 -- ── the clauses of the definitions ──
-
-up_nil : (t : ℕ) → all_up_to t [] ≡ true
-unfolding all_up_to
-up_nil t = refl
-
-up_cons : (t : ℕ) (x : Frag) (xs : List Frag) → all_up_to t (x ∷ xs) ≡ (at_or_before 32 x.tsn t && all_up_to t xs)
-unfolding all_up_to
-up_cons t x xs = refl
 
 gap-nil : (t : ℕ) (x : Frag) → gap_up_to t x [] ≡ (not (ends x) && at_or_before 32 (next 32 x.tsn) t)
 unfolding gap_up_to
@@ -50,35 +43,10 @@ at size table i = bare (get_or (rows_of size table) i blank)
 
 -- ── every TSN up to one ──
 
-pub record UpTo (t size : ℕ) (table : List ℕ) (from n i : ℕ) : Type 0 where
-  pub sized : length table ≡ 4 * size
-  pub fit : from + n ≤ size
-  pub within : i ≤ n
-  pub is : all_up_to t (map bare (drop i (segment size table from n))) ≡ all_up_to t (map bare (segment size table from n))
-
-pub up_none : (t size : ℕ) (table : List ℕ) (from n : ℕ) → length table ≡ 4 * size → from + n ≤ size → UpTo t size table from n 0
-up_none t size table from n s f = record { sized = s; fit = f; within = omega arith; is = refl }
-
-module _ {t size : ℕ} {table : List ℕ} {from n i : ℕ} (u : UpTo t size table from n i) where
-  abbrev tsn : ℕ
-  tsn = get_or table (size + from + i) 0
-
-  up_fits : from + n ≤ length (rows_of size table)
-  up_fits = omega (arith, u.fit, rows_long size table u.sized)
-
-  up_step : i < n → (at_or_before 32 tsn t && all_up_to t (map bare (drop (i + 1) (segment size table from n)))) ≡ all_up_to t (map bare (segment size table from n))
-  up_step h =
-      rw (tsn-at size table u.sized (from + i) (omega (arith, u.fit)) {q = size + from + i} (omega arith))
-      (rw (segment-rest (rows_of size table) from n up_fits i h, up_cons) at u.is)
-
-  pub up_turn : i < n → at_or_before 32 (get_or table (size + from + i) 0) t ≡ true → UpTo t size table from n (i + 1)
-  up_turn h e = record { sized = u.sized; fit = u.fit; within = omega arith; is = rw e at (up_step h) }
-
-  pub up_break : i < n → at_or_before 32 (get_or table (size + from + i) 0) t ≡ false → false ≡ all_up_to t (map bare (take n (drop from (rows_of size table))))
-  up_break h e = rw e at (up_step h)
-
-  pub up_all : n ≤ i → true ≡ all_up_to t (map bare (take n (drop from (rows_of size table))))
-  up_all h = rw (segment_end (rows_of size table) from n up_fits i h, up_nil) at u.is
+pub up_is : (t : ℕ) (rs : List Row) → list_all (λ (w : ℕ). at_or_before 32 w t) (map (λ (r : Row). r.tsn) rs) ≡ all_up_to t (map bare rs)
+unfolding all_up_to
+up_is t [] = refl
+up_is t (r ∷ rs) = ap (λ (b : Bool). at_or_before 32 r.tsn t && b) (up_is t rs)
 
 -- ── a gap up to one ──
 

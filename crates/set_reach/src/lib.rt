@@ -24,15 +24,8 @@ fn all_up_to(table: &[u32], size: usize, from: usize, n: usize, tsn: u32) -> boo
     requires n_bound { from + n ≤ size }
     ensures { result ≡ all_up_to tsn (map bare (take n (drop from (rows_of size table.now)))) }
 {
-    let tsns = size + from;
-    let mut i: usize = 0;
-    while i < n {
-        if !serial_tsns::sna32lte(table[tsns + i], tsn) {
-            return false;
-        }
-        i += 1;
-    }
-    true
+    let tsns = table_columns::tsns(table, size, from, n);
+    tsns.iter().all(|held| serial_tsns::sna32lte(*held, tsn))
 }
 
 // Whether a TSN that is missing behind the first row is at or before one: in a gap, or behind a last row that is not E.
@@ -44,11 +37,10 @@ fn has_gap(table: &[u32], size: usize, from: usize, n: usize, tsn: u32) -> bool
 {
     let tsns = size + from;
     let end = n - 1;
-    let mut i: usize = 0;
-    while i < end {
+    for i in 0..end {
         let next = serial_steps::tsn_next(table[tsns + i]);
-        i += 1;
-        if table[tsns + i] != next {
+        let behind = i + 1;
+        if table[tsns + behind] != next {
             if serial_tsns::sna32lte(next, tsn) {
                 return true;
             }

@@ -119,9 +119,9 @@ module _ (lent : Bor (List ℕ)) (tsns words pool : List ℕ) where
       ∷ data_written (fields 7) abc (room 19) is written (says none 19) p3_bytes
       -- P4 DATA length 15: 4. Length 16, which has no data: 15 (document 02, M-104).
       ∷ unmarshal_data (p4_bytes 15) gives says (refuse 4) no_data
-      ∷ user_data_call lent (p4_bytes 15) gives no_part lent 4
+      ∷ user_data_call lent (p4_bytes 15) gives no_part 4
       ∷ unmarshal_data (p4_bytes 16) gives says (refuse 15) no_data
-      ∷ user_data_call lent (p4_bytes 16) gives no_part lent 15
+      ∷ user_data_call lent (p4_bytes 16) gives no_part 15
       -- P5 SACK, cumulative 100, a_rwnd 1500, blocks 2-3 and 5-5, duplicate 98:
       -- `03 00 00 1C 00 00 00 64 00 00 05 DC 00 02 00 01 00 02 00 03 00 05 00 05 00 00 00 62`.
       ∷ sack_written 100 1500 (2 ∷ 5 ∷ []) (3 ∷ 5 ∷ []) (98 ∷ []) (room 28) is written (says none 28) p5_bytes

@@ -1,23 +1,22 @@
 -- The words of the bench sheet, said by the definitions that the promises of the calls cite.
 -- Assumes nothing.
-use Rattle.std.specs.Prelude.{◌≡◌, Bool, true, false, List, [], ◌∷◌, ℕ, zero, suc, ◌+◌, ℤ, pos, ◌-ℤ◌, length, replicate}
+use Rattle.std.specs.Prelude.{◌≡◌, Bool, true, false, List, [], ◌∷◌, ℕ, zero, suc, ◌+◌, ℤ, pos, ◌-ℤ◌, length, replicate, Result}
 use Rattle.std.specs.Borrow.{Bor}
-use Rattle.wire_model.specs.Refusal.{Told}
+use Rattle.wire_model.specs.Refusal.{none, refuse, Told, says}
+use Rattle.refusal.specs.declared.Refusal.{Refusal}
 use Rattle.chunk.specs.Header.{HeaderFront}
-use Rattle.chunk.specs.Part.{Part}
+use Rattle.chunk.specs.Part as parts
 use Rattle.data_fields.specs.Fields.{DataValues}
 use Rattle.chunk_payload_data.specs.Data.{data_told, DataFront, data_read, user_data}
 use Rattle.data_fields.specs.declared.ChunkPayloadData.{ChunkPayloadData}
-use Rattle.chunk_payload_data.specs.declared.Unmarshalled as datas
 use Rattle.chunk_selective_ack.specs.Layout.{Sack, Block}
 use Rattle.chunk_selective_ack.specs.Sack.{sack_told, SackFront, sack_read, blocks_part, duplicates_part, BlockFront, block_told, block_read, TsnFront, tsn_told, tsn_read}
-use Rattle.sack_fields.specs.declared.Unmarshalled as sacks
-use Rattle.sack_entries.specs.declared.GapAckBlockAt.{GapAckBlockAt}
-use Rattle.sack_entries.specs.declared.DuplicateTsnAt.{DuplicateTsnAt}
+use Rattle.sack_fields.specs.declared.ChunkSelectiveAck.{ChunkSelectiveAck}
+use Rattle.sack_entries.specs.declared.GapAckBlock.{GapAckBlock}
 use Rattle.payload_model.specs.Queue as tsns
 use Rattle.chunks.specs.Message.{Place, next_piece}
 use Rattle.chunks.specs.declared.Chunks.{Chunks}
-use Rattle.reassembly_state.specs.State.{State, pushed}
+use Rattle.reassembly_state.specs.State.{State}
 use Rattle.reassembly_queue.specs.Queue.{state_of}
 use Rattle.sheet.specs.Table.{Line}
 
@@ -48,36 +47,36 @@ c gives paper = (r : c.Answer) → ((f : c.Fields) → c.told r ≡ c.promised f
 
 -- of the lent bytes
 abbrev pub unmarshal_data : List ℕ → Call (Told DataValues)
-unmarshal_data raw = record { Answer = datas.Unmarshalled; Fields = DataFront raw; told = data_told; promised = λ f. data_read (length raw) f.fields }
+unmarshal_data raw = record { Answer = Result ChunkPayloadData Refusal; Fields = DataFront raw; told = data_told; promised = λ f. data_read (length raw) f.fields }
 
 abbrev pub unmarshal_sack : List ℕ → Call (Told Sack)
-unmarshal_sack raw = record { Answer = sacks.Unmarshalled; Fields = SackFront raw; told = sack_told; promised = λ f. sack_read (length raw) f.fields }
+unmarshal_sack raw = record { Answer = Result ChunkSelectiveAck Refusal; Fields = SackFront raw; told = sack_told; promised = λ f. sack_read (length raw) f.fields }
 
 -- of a part and an index
 abbrev pub gap_ack_block_at : List ℕ → ℕ → Call (Told Block)
-gap_ack_block_at part i = record { Answer = GapAckBlockAt; Fields = BlockFront part i; told = block_told; promised = λ f. block_read part i f.fields }
+gap_ack_block_at part i = record { Answer = Result GapAckBlock Refusal; Fields = BlockFront part i; told = block_told; promised = λ f. block_read part i f.fields }
 
 abbrev pub duplicate_tsn_at : List ℕ → ℕ → Call (Told ℕ)
-duplicate_tsn_at part i = record { Answer = DuplicateTsnAt; Fields = TsnFront part i; told = tsn_told; promised = λ f. tsn_read part i f.fields }
+duplicate_tsn_at part i = record { Answer = Result ℕ Refusal; Fields = TsnFront part i; told = tsn_told; promised = λ f. tsn_read part i f.fields }
 
 -- the parts of the bytes raw, which lie where `lent` points
 module _ (lent : Bor (List ℕ)) where
-  abbrev pub user_data_call : List ℕ → Call Part
-  user_data_call raw = record { Answer = Part; Fields = HeaderFront raw; told = λ p. p; promised = λ f. user_data (record lent { now = raw }) f.fields }
+  abbrev pub user_data_call : List ℕ → Call (Told parts.Part)
+  user_data_call raw = record { Answer = Result (Bor (List ℕ)) Refusal; Fields = HeaderFront raw; told = parts.part_told; promised = λ f. user_data (record lent { now = raw }) f.fields }
 
-  abbrev pub gap_ack_blocks : List ℕ → Call Part
-  gap_ack_blocks raw = record { Answer = Part; Fields = SackFront raw; told = λ p. p; promised = λ f. blocks_part (record lent { now = raw }) f.fields }
+  abbrev pub gap_ack_blocks : List ℕ → Call (Told parts.Part)
+  gap_ack_blocks raw = record { Answer = Result (Bor (List ℕ)) Refusal; Fields = SackFront raw; told = parts.part_told; promised = λ f. blocks_part (record lent { now = raw }) f.fields }
 
-  abbrev pub duplicate_tsns_call : List ℕ → Call Part
-  duplicate_tsns_call raw = record { Answer = Part; Fields = SackFront raw; told = λ p. p; promised = λ f. duplicates_part (record lent { now = raw }) f.fields }
+  abbrev pub duplicate_tsns_call : List ℕ → Call (Told parts.Part)
+  duplicate_tsns_call raw = record { Answer = Result (Bor (List ℕ)) Refusal; Fields = SackFront raw; told = parts.part_told; promised = λ f. duplicates_part (record lent { now = raw }) f.fields }
 
   -- not refused: these bytes, which lie from byte start on
-  abbrev pub part-from : ℕ → List ℕ → Part
-  part-from start bs = record { refusal = 255; bytes = bs; place = (lent.ref_ptr.0, start + lent.ref_ptr.1) }
+  abbrev pub part-from : ℕ → List ℕ → Told parts.Part
+  part-from start bs = says none (record { bytes = bs; place = (lent.ref_ptr.0, start + lent.ref_ptr.1) })
 
-  -- refused with k: an empty part
-  abbrev pub no_part : ℕ → Part
-  no_part k = record { refusal = k; bytes = []; place = lent.ref_ptr }
+-- refused with k: no part
+abbrev pub no_part : ℕ → Told parts.Part
+no_part k = says (refuse k) parts.no_part
 
 -- ── chunks that are pushed, all of stream 0 and identifier 51 ──
 
@@ -130,7 +129,7 @@ queued q cumulative (t ∷ ts) = queued (tsns.pushed q (tsns.row_of (ordered BE 
 -- a queue of stream 0 with maximum 10 that expects this SSN and holds nothing, with the words and the bytes lent to it
 abbrev pub expecting : ℕ → List ℕ → List ℕ → State
 expecting ssn words pool =
-    state_of (record { si = 0; next_ssn = ssn; max_message_size = 10; finished = 0; unordered = 0; ordered = 0; n_bytes = 0 }) words pool
+    state_of (record { counts = record { si = 0; next_ssn = ssn; max_message_size = 10; finished = 0; unordered = 0; ordered = 0; n_bytes = 0 } }) words pool
 
 -- ── the message in hand ──
 

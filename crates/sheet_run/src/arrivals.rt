@@ -1,8 +1,9 @@
 // Reassembly: fragments of one stream arrive.
-use crate::show;
 use crate::show::Sheet;
 use data_fields::ChunkPayloadData;
-use reassembly_queue::{BYTES, ReassemblyQueue, Took, WORDS};
+use print::Quoted;
+use reassembly_queue::{BYTES, ReassemblyQueue, WORDS};
+use refusal::Refusal;
 use std::io;
 use std::io::{Read, Write};
 
@@ -26,82 +27,85 @@ pub fn unordered(b: bool, e: bool, tsn: u32) -> ChunkPayloadData {
     fields
 }
 
-// Pushes a fragment, and shows the answer.
-fn push<R: Read, W: Write>(
-    sheet: &mut Sheet<R, W>,
+// A queue, with the table and the pool that are lent to it.
+#[derive(Clone, Copy)]
+pub struct Stream {
     queue: ReassemblyQueue,
-    table: &mut [u32; WORDS],
-    pool: &mut [u8; BYTES],
-    fields: ChunkPayloadData,
-    user_data: &[u8],
-) -> io::Result<ReassemblyQueue> {
-    let pushed = queue.push(table, pool, fields, user_data);
-    let answer = pushed.answer;
-    show::flag(sheet, answer)?;
-    Ok(pushed.queue)
+    table: [u32; WORDS],
+    pool: [u8; BYTES],
+}
+
+impl Stream {
+    // Of messages of ten bytes at most.
+    pub fn new() -> Stream {
+        Stream {
+            queue: ReassemblyQueue::new(0, 10),
+            table: [0; WORDS],
+            pool: [0; BYTES],
+        }
+    }
+
+    pub fn push(&mut self, fields: ChunkPayloadData, user_data: &[u8]) -> Result<bool, Refusal> {
+        self.queue
+            .push(&mut self.table, &mut self.pool, fields, user_data)
+    }
+
+    // Pushes a fragment, and shows the answer.
+    fn arrives<R: Read, W: Write>(
+        &mut self,
+        sheet: &mut Sheet<R, W>,
+        fields: ChunkPayloadData,
+        user_data: &[u8],
+    ) -> io::Result<()> {
+        match self.push(fields, user_data) {
+            Ok(complete) => sheet.fill(complete),
+            Err(reason) => sheet.refused(reason),
+        }
+    }
+
+    // Takes a message, and shows it with the number of fragments that went with it.
+    fn take<R: Read, W: Write>(&mut self, sheet: &mut Sheet<R, W>) -> io::Result<()> {
+        let mut buffer = [0u8; 16];
+        let held = self.queue.counts.ordered;
+        match self
+            .queue
+            .read(&mut self.table, &mut self.pool, &mut buffer)
+        {
+            Ok(Some(message)) => {
+                sheet.fill(held)?;
+                sheet.fill(Quoted(&buffer[..message.size.min(16)]))
+            }
+            Ok(None) => sheet.fill("none"),
+            Err(reason) => sheet.refused(reason),
+        }
+    }
+
+    // How many bytes are held.
+    pub fn bytes(&self) -> Result<usize, Refusal> {
+        self.queue.get_num_bytes(&self.table, &self.pool)
+    }
 }
 
 pub fn p9<R: Read, W: Write>(sheet: &mut Sheet<R, W>) -> io::Result<()> {
-    let mut table = [0u32; WORDS];
-    let mut pool = [0u8; BYTES];
-    let new = ReassemblyQueue::new(0, 10);
-    let held = new.push(&mut table, &mut pool, unordered(true, false, 1), b"123456");
-    let fields = unordered(false, true, 2);
-    let q = push(sheet, held.queue, &mut table, &mut pool, fields, b"12345")?;
-    push(sheet, q, &mut table, &mut pool, fields, b"1234")?;
-    Ok(())
+    let mut stream = Stream::new();
+    let _ = stream.push(unordered(true, false, 1), b"123456");
+    stream.arrives(sheet, unordered(false, true, 2), b"12345")?;
+    stream.arrives(sheet, unordered(false, true, 2), b"1234")
 }
 
 pub fn p10<R: Read, W: Write>(sheet: &mut Sheet<R, W>) -> io::Result<()> {
-    let mut table = [0u32; WORDS];
-    let mut pool = [0u8; BYTES];
-    let mut q = ReassemblyQueue::new(0, 10);
-    q.next_ssn = 5;
-    let fields = ordered(true, true, 1, 4);
-    let q = push(sheet, q, &mut table, &mut pool, fields, b"12345678901")?;
-    push(sheet, q, &mut table, &mut pool, fields, b"1234567890")?;
-    Ok(())
-}
-
-pub fn p11<R: Read, W: Write>(sheet: &mut Sheet<R, W>) -> io::Result<()> {
-    let mut table = [0u32; WORDS];
-    let mut pool = [0u8; BYTES];
-    let q = arrived(sheet, &mut table, &mut pool)?;
-    let q = take(sheet, q, &mut table, &mut pool)?;
-    take(sheet, q, &mut table, &mut pool)?;
-    Ok(())
+    let mut stream = Stream::new();
+    stream.queue.counts.next_ssn = 5;
+    stream.arrives(sheet, ordered(true, true, 1, 4), b"12345678901")?;
+    stream.arrives(sheet, ordered(true, true, 1, 4), b"1234567890")
 }
 
 // One SSN: TSN 1 with B, 3 with E, 2 with both.
-fn arrived<R: Read, W: Write>(
-    sheet: &mut Sheet<R, W>,
-    table: &mut [u32; WORDS],
-    pool: &mut [u8; BYTES],
-) -> io::Result<ReassemblyQueue> {
-    let q = ReassemblyQueue::new(0, 10);
-    let q = push(sheet, q, table, pool, ordered(true, false, 1, 0), b"a")?;
-    let q = push(sheet, q, table, pool, ordered(false, true, 3, 0), b"c")?;
-    push(sheet, q, table, pool, ordered(true, true, 2, 0), b"b")
-}
-
-// Takes a message, and shows it with the number of fragments that went with it.
-fn take<R: Read, W: Write>(
-    sheet: &mut Sheet<R, W>,
-    queue: ReassemblyQueue,
-    table: &mut [u32; WORDS],
-    pool: &mut [u8; BYTES],
-) -> io::Result<ReassemblyQueue> {
-    let mut buffer = [0u8; 16];
-    let taken = queue.read(table, pool, &mut buffer);
-    let answer = taken.answer;
-    match answer {
-        Took::Refused(k) => show::refused(sheet, k)?,
-        Took::Nothing => show::word(sheet, b"none")?,
-        Took::Message(m) => {
-            show::number(sheet, queue.ordered as u64)?;
-            show::text(sheet)?;
-            print::quoted(&mut sheet.filled, print::first(&buffer, m.size))?;
-        }
-    }
-    Ok(taken.queue)
+pub fn p11<R: Read, W: Write>(sheet: &mut Sheet<R, W>) -> io::Result<()> {
+    let mut stream = Stream::new();
+    stream.arrives(sheet, ordered(true, false, 1, 0), b"a")?;
+    stream.arrives(sheet, ordered(false, true, 3, 0), b"c")?;
+    stream.arrives(sheet, ordered(true, true, 2, 0), b"b")?;
+    stream.take(sheet)?;
+    stream.take(sheet)
 }

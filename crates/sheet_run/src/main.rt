@@ -26,15 +26,15 @@ fn main(rt: HostRuntime) -> io::Result<()> {
     data_chunk::p4(&mut sheet, 15)?;
     data_chunk::p4(&mut sheet, 16)?;
     sack_chunk::p5(&mut sheet)?;
-    queued::report(&mut sheet, 102, 103, 105, 100)?;
-    queued::report(&mut sheet, 4294967295, 0, 2, 4294967294)?;
-    queued::report(&mut sheet, 65534, 65535, 65536, 0)?;
+    queued::report(&mut sheet, [102, 103, 105], 100)?;
+    queued::report(&mut sheet, [4294967295, 0, 2], 4294967294)?;
+    queued::report(&mut sheet, [65534, 65535, 65536], 0)?;
     arrivals::p9(&mut sheet)?;
     arrivals::p10(&mut sheet)?;
     arrivals::p11(&mut sheet)?;
     hand::p12(&mut sheet)?;
     full::fragments(&mut sheet)?;
     hand::short_buffer(&mut sheet)?;
-    show::text(&mut sheet)?;
+    sheet.text()?;
     sheet.filled.flush()
 }

@@ -29,16 +29,17 @@ const WORKED: [u8; 24] =
 const P4: [u8; 16] = *b"\x00\x03\x00\x0F\x00\x00\x00\x0A\x00\x02\x00\x05\x00\x00\x00\x33";
 
 fn main(rt: HostRuntime) -> io::Result<()> {
-    let mut writer = BufWriter::new(rt.alloc(), rt.stdout())?;
-    let p2 = P2;
-    show_data::show(&mut writer, b"DATA, bench sheet P2", &p2)?;
-    let p3 = P3;
-    show_data::show(&mut writer, b"\nDATA, bench sheet P3", &p3)?;
-    let p5 = P5;
-    show_sack::show(&mut writer, b"\nSACK, bench sheet P5", &p5)?;
-    let worked = WORKED;
-    show_sack::show(&mut writer, b"\nSACK, RFC 4960 section 3.3.4", &worked)?;
-    let p4 = P4;
-    show_data::show(&mut writer, b"\nDATA of length 15, bench sheet P4", &p4)?;
+    let alloc = rt.alloc();
+    let mut writer = BufWriter::new(alloc, rt.stdout())?;
+    let (p2, p3, p4, p5, worked) = (P2, P3, P4, P5, WORKED);
+    show_data::show(&mut writer, "DATA, bench sheet P2", &p2)?;
+    writeln!(writer)?;
+    show_data::show(&mut writer, "DATA, bench sheet P3", &p3)?;
+    writeln!(writer)?;
+    show_sack::show(&mut writer, alloc, "SACK, bench sheet P5", &p5)?;
+    writeln!(writer)?;
+    show_sack::show(&mut writer, alloc, "SACK, RFC 4960 section 3.3.4", &worked)?;
+    writeln!(writer)?;
+    show_data::show(&mut writer, "DATA of length 15, bench sheet P4", &p4)?;
     writer.flush()
 }

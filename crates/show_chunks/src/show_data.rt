@@ -1,70 +1,82 @@
 // A DATA chunk, field by field.
 use crate::outcome;
-use chunk::Marshalled;
-use chunk_payload_data::Unmarshalled;
 use data_fields::ChunkPayloadData;
 use payload_identifier::PayloadProtocolIdentifier;
+use print::{Quoted, Spaced, yes_or_no};
+use refusal::Refusal;
 use std::io;
 use std::io::Write;
 
-pub fn show<W: Write>(writer: &mut W, title: &[u8], raw: &[u8]) -> io::Result<()> {
+pub fn show<W: Write>(writer: &mut W, title: &str, raw: &[u8]) -> io::Result<()> {
     outcome::begun(writer, title, raw)?;
-    let answer = chunk_payload_data::unmarshal(raw);
-    match answer {
-        Unmarshalled::Refused(k) => outcome::refused(writer, k),
-        Unmarshalled::Fields(f) => {
-            let mut refusal: u8 = 0;
-            let user = chunk_payload_data::user_data(raw, &mut refusal);
-            show_fields(writer, f, user)?;
-            // The chunk is written into a fresh buffer, with room for the longest one.
-            let mut out = [0u8; 65535];
-            let again = chunk_payload_data::marshal_to(&mut out, f, user);
-            match again {
-                Marshalled::Refused(k) => outcome::refused(writer, k),
-                Marshalled::Bytes(n) => outcome::written(writer, raw, print::first(&out, n)),
-            }
+    match read(raw) {
+        Ok((fields, user)) => {
+            show_fields(writer, fields, user)?;
+            write_again(writer, raw, fields, user)
         }
+        Err(refusal) => outcome::refused(writer, refusal),
     }
 }
 
-fn show_fields<W: Write>(writer: &mut W, f: ChunkPayloadData, user: &[u8]) -> io::Result<()> {
-    print::flag_line(writer, b"  unordered           ", f.unordered)?;
-    print::flag_line(writer, b"  beginning fragment  ", f.beginning_fragment)?;
-    print::flag_line(writer, b"  ending fragment     ", f.ending_fragment)?;
-    print::flag_line(writer, b"  immediate sack      ", f.immediate_sack)?;
-    let identifier = f.payload_type as u64;
-    let tsn = f.tsn as u64;
-    let stream = f.stream_identifier as u64;
-    let ssn = f.stream_sequence_number as u64;
-    print::filled(
-        writer,
-        b"  TSN                 %\n  stream              %\n  SSN                 %\n  payload identifier  %",
-        [tsn, stream, ssn, identifier],
-    )?;
-    print::one_of(
-        writer,
-        b" (Dcep)\n| (String)\n| (Binary)\n| (StringEmpty)\n| (BinaryEmpty)\n| (Unknown)\n",
-        name(PayloadProtocolIdentifier::from_u32(f.payload_type)),
-    )?;
-    print::with_number(
-        writer,
-        b"  user data           % bytes: ",
-        user.len() as u64,
-    )?;
-    print::bytes(writer, user)?;
-    print::text(writer, b", ")?;
-    print::quoted(writer, user)?;
-    print::text(writer, b"\n")
+// The chunk's fields and its user data.
+fn read(raw: &[u8]) -> Result<(ChunkPayloadData, &[u8]), Refusal> {
+    let fields = chunk_payload_data::unmarshal(raw)?;
+    let user = chunk_payload_data::user_data(raw)?;
+    Ok((fields, user))
 }
 
-// Its place among the names.
-fn name(identifier: PayloadProtocolIdentifier) -> usize {
+fn show_fields<W: Write>(writer: &mut W, f: ChunkPayloadData, user: &[u8]) -> io::Result<()> {
+    writeln!(writer, "  unordered           {}", yes_or_no(f.unordered))?;
+    writeln!(
+        writer,
+        "  beginning fragment  {}",
+        yes_or_no(f.beginning_fragment)
+    )?;
+    writeln!(
+        writer,
+        "  ending fragment     {}",
+        yes_or_no(f.ending_fragment)
+    )?;
+    writeln!(
+        writer,
+        "  immediate sack      {}",
+        yes_or_no(f.immediate_sack)
+    )?;
+    writeln!(writer, "  TSN                 {}", f.tsn)?;
+    writeln!(writer, "  stream              {}", f.stream_identifier)?;
+    writeln!(writer, "  SSN                 {}", f.stream_sequence_number)?;
+    let name = name(PayloadProtocolIdentifier::from(f.payload_type));
+    writeln!(writer, "  payload identifier  {} ({name})", f.payload_type)?;
+    let n = user.len();
+    writeln!(
+        writer,
+        "  user data           {n} bytes: {}, {}",
+        Spaced(user),
+        Quoted(user)
+    )
+}
+
+fn name(identifier: PayloadProtocolIdentifier) -> &'static str {
     match identifier {
-        PayloadProtocolIdentifier::Dcep => 0,
-        PayloadProtocolIdentifier::String => 1,
-        PayloadProtocolIdentifier::Binary => 2,
-        PayloadProtocolIdentifier::StringEmpty => 3,
-        PayloadProtocolIdentifier::BinaryEmpty => 4,
-        PayloadProtocolIdentifier::Unknown => 5,
+        PayloadProtocolIdentifier::Dcep => "Dcep",
+        PayloadProtocolIdentifier::String => "String",
+        PayloadProtocolIdentifier::Binary => "Binary",
+        PayloadProtocolIdentifier::StringEmpty => "StringEmpty",
+        PayloadProtocolIdentifier::BinaryEmpty => "BinaryEmpty",
+        PayloadProtocolIdentifier::Unknown => "Unknown",
+    }
+}
+
+// Writes the chunk into a fresh buffer, with room for the longest one.
+fn write_again<W: Write>(
+    writer: &mut W,
+    raw: &[u8],
+    fields: ChunkPayloadData,
+    user: &[u8],
+) -> io::Result<()> {
+    let mut out = [0u8; 65535];
+    match chunk_payload_data::marshal_to(&mut out, fields, user) {
+        Ok(n) => outcome::written(writer, raw, &out[..n.min(65535)]),
+        Err(refusal) => outcome::refused(writer, refusal),
     }
 }

@@ -29,10 +29,8 @@ fn held(streams: Streams, from: usize, to: usize) -> Sum
 {
     let mut rows: usize = 0;
     let mut bytes: usize = 0;
-    let mut i = from;
-    while i < to {
+    for i in from..to {
         let queue = streams.at(i);
-        i += 1;
         rows += queue.finished + (queue.unordered + queue.ordered);
         bytes += queue.n_bytes;
     }
@@ -81,10 +79,8 @@ pub fn unsound(streams: Streams, table: &[u32], pool: &[u8]) -> bool
 {
     let mut first: usize = 0;
     let mut bytes: usize = 0;
-    let mut i: usize = 0;
-    while i < STREAMS {
+    for i in 0..STREAMS {
         let queue = streams.at(i);
-        i += 1;
         if above(queue, FRAGMENTS - first) {
             return true;
         }

@@ -2,13 +2,13 @@
 -- first and last lists is a sound queue of one stream, so that the calls of one stream serve here.
 -- Assumes nothing.
 use mathlib.Core.Path.{◌≡◌, refl, sym, ap, ◌∙◌}
-use mathlib.Core.Bool.{Bool, true, false}
-use mathlib.Core.List.{List, [], ◌∷◌, ◌++◌, map, append_assoc, append-nil, map-append}
-use Prim.Native.Nat.{ℕ, zero, suc, ◌+◌, ◌-◌, ◌≤◌, ◌<◌}
+use mathlib.Core.Bool.{false}
+use mathlib.Core.List.{List, [], ◌∷◌, ◌++◌, map, append_assoc, append-nil}
+use Prim.Native.Nat.{ℕ, suc, ◌+◌, ◌-◌, ◌≤◌, ◌<◌}
 use native.Mathlib.Omega.{arith}
 use borrow.Author.Tests.{le-ltb, eq-eqb}
 use lib.ListN.{length, take, drop, get_or, set, length-drop, length-append, take-append-drop, get_or-map}
-use lib.Seq.{length-take-le, take-take, take-add, drop-drop, take_all, take_at, drop_at, take-append-add, drop-append-add, take-append-le, drop-append-le, take-suc, split_at, set_split}
+use lib.Seq.{length-take-le, take-take, drop-drop, take_all, take-append-add, drop-append-add, take-append-le, drop-append-le, take-suc, set_split}
 use Rattle.table.specs.declared.Row.{Row}
 use Rattle.fragments.specs.Frag.{Frag}
 use Rattle.fragments.specs.Words.{size, concat}
@@ -19,11 +19,10 @@ use Rattle.reassembly_state.specs.Model.{Queue, queue, held}
 use Rattle.reassembly_state.specs.State.{count, counts}
 use Rattle.reassembly_state.specs.State as one
 use Rattle.reassembly_state.specs.declared.Counts.{Counts}
-use Rattle.reassembly_state.proofs.Laws as laws
 use Rattle.streams_model.specs.Among as at
 use Rattle.streams_model.specs.Among.{among_counts, alone_counts, amongst, up_to}
 use Rattle.streams_model.specs.Shape.{no_counts}
-use Rattle.streams_model.specs.State.{State, rows_held, bytes_of, bytes_said, fragments, queue_of, split, view, held_by, lay, no_queue, own, with_own}
+use Rattle.streams_model.specs.State.{State, rows_held, bytes_of, bytes_said, fragments, queue_of, view, held_by, lay, no_queue, own, with_own}
 use Rattle.streams_model.proofs.Totals.{map-set}
 use Rattle.streams_model.proofs.Laws.{Sound, summed-append, summed-split, sums-total, sums-front, held-split, split-length, take_split, drop-split, get-split, fragments-length, counts-own, held-queue}
 

@@ -2,14 +2,14 @@
 -- Assumes nothing.
 use mathlib.Core.Path.{◌≡◌, refl, sym, ap, ◌∙◌}
 use mathlib.Core.Bool.{Bool, true, false, cond}
-use mathlib.Core.List.{List, [], ◌∷◌, ◌++◌, append_assoc}
-use Prim.Native.Nat.{ℕ, ◌+◌, ◌-◌}
+use mathlib.Core.List.{List, append_assoc}
+use Prim.Native.Nat.{ℕ, ◌+◌}
 use lib.Dec.{ltb}
 use lib.ListN.{length, drop}
 use lib.Seq.{drop-append_seam}
 use Rattle.wire_model.specs.Refusal.{none, refuse, Told, says}
 use Rattle.serial_model.specs.Serial.{before}
-use Rattle.moves_model.specs.Lists.{slice, gone}
+use Rattle.moves_model.specs.Lists.{slice}
 use Rattle.fragments.specs.Frag.{Frag, ssn_of, has_tsn, tsn_before}
 use Rattle.fragments.specs.Words.{size, any, placed}
 use Rattle.fragment_sets.specs.Sets.{set_of}

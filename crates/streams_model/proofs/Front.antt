@@ -3,13 +3,11 @@
 use mathlib.Core.Path.{◌≡◌, refl, sym, ap, subst, ◌∙◌}
 use mathlib.Core.Bool.{Bool, true, false, cond}
 use mathlib.Core.List.{List, [], ◌++◌}
-use Prim.Native.Nat.{ℕ, ◌+◌, ◌-◌, ◌≤◌, ◌<◌}
+use Prim.Native.Nat.{ℕ, ◌+◌, ◌≤◌, ◌<◌}
 use native.Mathlib.Omega.{arith}
-use lib.ListN.{length, take, get_or, set}
+use lib.ListN.{length, set}
 use lib.Seq.{set-get_or}
-use Rattle.wire_model.specs.Refusal.{Told}
-use Rattle.wire_model.specs.BigEndian.{over}
-use Rattle.moves_model.specs.Lists.{gone}
+use Rattle.wire_model.specs.Refusal.{none, Told, says}
 use Rattle.table.specs.declared.Row.{Row}
 use Rattle.fragments.specs.Frag.{Frag}
 use Rattle.fragments.specs.Words.{size}
@@ -18,16 +16,15 @@ use Rattle.reassembly_state.specs.Limits.{frags_most}
 use Rattle.reassembly_state.specs.Model.{Queue, held, Given, gives, keep_ordered, push_ordered}
 use Rattle.reassembly_state.specs.State.{count, counts, fragment_of}
 use Rattle.reassembly_state.specs.State as one
-use Rattle.reassembly_state.specs.Rows.{Asks}
+use Rattle.reassembly_state.specs.Rows.{Declines, Keeps}
 use Rattle.reassembly_state.specs.declared.Counts.{Counts}
 use Rattle.data_fields.specs.declared.ChunkPayloadData.{ChunkPayloadData}
-use Rattle.streams_model.specs.State.{State, view, lay, no_queue, own, with_own, After, after, laid}
-use Rattle.streams_model.specs.Among.{Others, among_counts, alone_counts, among_none, amongst, up_to, mine, rows_before, rows_behind, bytes_before, bytes_behind, before, behind, among, OneMore, Ready}
+use Rattle.streams_model.specs.State.{State, view, lay, no_queue, own, with_own, after, laid}
+use Rattle.streams_model.specs.Among.{Others, among_counts, alone_counts, among_none, up_to, rows_before, bytes_before, before, behind, among, Ready}
 use Rattle.streams_model.proofs.Laws.{Sound, lay-own}
 use Rattle.streams_model.proofs.Among.{none_behind, held_up_to, counts-amongst, alone_among, before-length, before-size, put_back, among_none_sound, among_none-view}
 use Rattle.streams_model.proofs.Beside as beside
 use Rattle.streams_model.proofs.Exact.{kept-one}
-use Rattle.streams_model.proofs.Moved.{rows_down, bytes_down}
 use Rattle.streams_model.proofs.Left.{stands}
 
 -- the streams with another queue m of stream j, whose counts have the others' before it in them
@@ -90,18 +87,19 @@ module _ (s : State) (k : Sound s) (full : length s.rows ≡ frags_most) (j : �
     pub front_sound : one.unsound (stands q s.rows s.pool) ≡ false
     front_sound = ap (λ (c : Counts). one.unsound (stands c s.rows s.pool)) e ∙ among_none_sound s k full j h
 
-    pub asks_front : {room : Bool} {p : ChunkPayloadData} {more : ℕ} {t : Told Bool} {keep : Bool} {at run : ℕ}
-        → (one.unsound (stands q s.rows s.pool) ≡ false → Asks (stands q s.rows s.pool) room p more t keep at run) → Asks (among s j 0 0) room p more t keep at run
-    asks_front {room} {p} {more} {t} {keep} {at} {run} a = subst (λ (c : Counts). Asks (stands c s.rows s.pool) room p more t keep at run) e (a front_sound)
+    pub asks_front : (Finds : one.State → Type 0) → (one.unsound (stands q s.rows s.pool) ≡ false → Finds (stands q s.rows s.pool)) → Finds (among s j 0 0)
+    asks_front Finds a = subst (λ (c : Counts). Finds (stands c s.rows s.pool)) e (a front_sound)
 
   -- what the questions of the queue with those before it find, they find of its own
-  module _ {room : Bool} (p : ChunkPayloadData) (bytes : List ℕ) {t : Told Bool} {keep : Bool} {at run : ℕ} (a : Asks (among s j 0 0) room p (length bytes) t keep at run) where
-    found : push_ordered room (own s j) (fragment_of p bytes) ≡ cond keep (keep_ordered (own s j) (fragment_of p bytes)) (gives t (own s j))
-    found = beside.ordered_alone (before s j) (own s j) room keep (fragment_of p bytes) t (rw (among_none-view s k full j h) at (a.is bytes refl))
+  module _ (room : Bool) (p : ChunkPayloadData) (bytes : List ℕ) where
+    found : (t : Told Bool) (keep : Bool)
+        → push_ordered room (one.view (among s j 0 0)) (fragment_of p bytes) ≡ cond keep (keep_ordered (one.view (among s j 0 0)) (fragment_of p bytes)) (gives t (one.view (among s j 0 0)))
+        → push_ordered room (own s j) (fragment_of p bytes) ≡ cond keep (keep_ordered (own s j) (fragment_of p bytes)) (gives t (own s j))
+    found t keep e = beside.ordered_alone (before s j) (own s j) room keep (fragment_of p bytes) t (rw (among_none-view s k full j h) at e)
 
     -- what is not kept leaves all as it was
-    pub away : keep ≡ false → after t s ≡ laid s j (push_ordered room (own s j) (fragment_of p bytes))
-    away e = sym (ap (laid s j) (found ∙ rw e) ∙ ap (after t) own-again)
+    pub away : {t : Told Bool} → Declines (among s j 0 0) room p (length bytes) t → after t s ≡ laid s j (push_ordered room (own s j) (fragment_of p bytes))
+    away {t} a = sym (ap (laid s j) (found t false (a bytes refl)) ∙ ap (after t) own-again)
 
-    pub kept-is : keep ≡ true → keep_ordered (own s j) (fragment_of p bytes) ≡ push_ordered room (own s j) (fragment_of p bytes)
-    kept-is e = sym (found ∙ rw e)
+    pub kept-is : {at run : ℕ} → Keeps (among s j 0 0) room p (length bytes) at run → keep_ordered (own s j) (fragment_of p bytes) ≡ push_ordered room (own s j) (fragment_of p bytes)
+    kept-is a = sym (found (says none false) true (a.is bytes refl))

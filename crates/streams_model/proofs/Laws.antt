@@ -2,20 +2,20 @@
 -- Assumes nothing.
 use mathlib.Core.Path.{◌≡◌, refl, sym, ap, ◌∙◌}
 use mathlib.Core.Bool.{Bool, true, false, ◌||◌, ◌&&◌, true≢false}
-use mathlib.Core.List.{List, [], ◌∷◌, ◌++◌, map, append_assoc}
+use mathlib.Core.List.{List, [], ◌∷◌, ◌++◌, map}
 use Prim.Native.Nat.{ℕ, zero, suc, ◌+◌, ◌-◌, ◌*◌, ◌≤◌, ◌<◌}
 use native.Mathlib.Omega.{arith}
 use borrow.Author.Tests.{ltb-false, eqb-true, not-false}
 use lib.Dec.{ltb, eqb}
-use lib.ListN.{length, take, drop, get_or, set, length-drop, length-take, take-append-drop}
-use lib.Seq.{length-take-le, take-suc, split_at, get_or-drop, take-take, take-add, take-nil, drop-nil, drop-drop, take_all}
+use lib.ListN.{length, take, drop, get_or, length-drop, length-take, take-append-drop}
+use lib.Seq.{length-take-le, take-suc, split_at, get_or-drop, take-take, take-add, drop-drop}
 use Rattle.wire_model.specs.Refusal.{Told}
 use Rattle.table.specs.Rows.{total}
 use Rattle.table.specs.declared.Row.{Row}
 use Rattle.fragments.specs.Frag.{Frag, long_length}
 use Rattle.fragments.specs.Words.{size, concat}
 use Rattle.fragments.specs.Pool.{cut}
-use Rattle.fragments.proofs.Pool.{B, cut-length, cut-take, cut-drop, cut-size, lay-view, total-split, total-take, total_up}
+use Rattle.fragments.proofs.Pool.{B, cut-length, cut-take, cut-drop, cut-size, lay-view, total-split, total_up}
 use Rattle.reassembly_state.specs.Limits.{frags_most, bytes_most}
 use Rattle.reassembly_state.specs.Model.{Queue, held}
 use Rattle.reassembly_state.specs.State.{count, counts}

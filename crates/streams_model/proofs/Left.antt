@@ -1,7 +1,7 @@
 -- What the call of a queue that has the others in its lists leaves, and what that is of the streams.
 -- Assumes nothing.
-use mathlib.Core.Path.{◌≡◌, refl, sym, ap, ◌∙◌}
-use mathlib.Core.Bool.{Bool, true, false}
+use mathlib.Core.Path.{◌≡◌, ap, ◌∙◌}
+use mathlib.Core.Bool.{Bool, false}
 use mathlib.Core.List.{List}
 use Prim.Native.Nat.{ℕ, ◌+◌, ◌≤◌, ◌<◌}
 use native.Mathlib.Omega.{arith}
@@ -10,16 +10,16 @@ use Rattle.wire_model.specs.Refusal.{Told}
 use Rattle.table.specs.declared.Row.{Row}
 use Rattle.fragments.specs.Frag.{Frag}
 use Rattle.reassembly_state.specs.Limits.{frags_most}
-use Rattle.reassembly_state.specs.Model.{Queue, Given, push_unordered, skip_unordered}
+use Rattle.reassembly_state.specs.Model.{Queue, Given, push_unordered}
 use Rattle.reassembly_state.specs.State as one
 use Rattle.reassembly_state.specs.Rows.{fits_if}
 use Rattle.reassembly_state.specs.declared.Counts.{Counts}
 use Rattle.streams_model.specs.Shape.{no_counts}
-use Rattle.streams_model.specs.State.{State, own, with_own, After, after, laid}
-use Rattle.streams_model.specs.Among.{Others, roomy_if, among_counts, among_all, among_none, alone_counts, amongst, mine, rows_before, rows_behind, bytes_before, bytes_behind, before, behind, among}
+use Rattle.streams_model.specs.State.{State, own, with_own}
+use Rattle.streams_model.specs.Among.{Others, roomy_if, among_counts, among_all, among_none, alone_counts, amongst, rows_behind, bytes_behind, before, behind, among}
 use Rattle.streams_model.proofs.Laws.{Sound}
 use Rattle.streams_model.proofs.Among.{rows_split, bytes-split, among-all_sound, among-all-view, left-counts, among-left}
-use Rattle.streams_model.proofs.Beside.{amid, unordered-amid, skip_unordered-amid}
+use Rattle.streams_model.proofs.Beside.{amid, unordered-amid}
 
 abbrev pub stands : Counts → List Row → List ℕ → one.State
 stands q rows pool = record { queue = q; rows = rows; pool = pool }

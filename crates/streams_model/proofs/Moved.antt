@@ -1,28 +1,27 @@
 -- What stands behind a stream moves when the stream grows or shrinks: down after it, or up ahead of it.
 -- Assumes nothing.
-use mathlib.Core.Path.{◌≡◌, refl, sym, ap, ◌∙◌}
-use mathlib.Core.Bool.{Bool, true, false}
-use mathlib.Core.List.{List, [], ◌∷◌, ◌++◌, map, append_assoc, map-append, append-nil}
-use Prim.Native.Nat.{ℕ, suc, ◌+◌, ◌-◌, ◌≤◌, ◌<◌}
+use mathlib.Core.Path.{◌≡◌, sym, ap, ◌∙◌}
+use mathlib.Core.List.{List, ◌++◌, map, append_assoc, map-append}
+use Prim.Native.Nat.{ℕ, ◌+◌, ◌-◌, ◌≤◌, ◌<◌}
 use native.Mathlib.Omega.{arith}
-use lib.ListN.{length, take, drop, length-append, length-map, length-drop}
-use lib.Seq.{take-take, take_at, drop_at, drop-drop, drop-append-add, take-append-add}
+use lib.ListN.{length, take, drop, length-append, length-map}
+use lib.Seq.{drop_at}
 use Rattle.wire_model.specs.BigEndian.{over}
-use Rattle.moves_model.specs.Lists.{put, gone}
+use Rattle.moves_model.specs.Lists.{gone}
 use Rattle.table.specs.declared.Row.{Row}
 use Rattle.table.proofs.Columns.{map-drop}
 use Rattle.fragments.specs.Frag.{Frag, row_of}
 use Rattle.fragments.specs.Words.{size, joined}
-use Rattle.fragments.specs.Pool.{cut, lay_rows, lay_bytes}
-use Rattle.fragments.proofs.Pool.{B, cut-rows, cut-joined, cut-size, joined-append, joined-drop, joined_length, size-append, size-split}
+use Rattle.fragments.specs.Pool.{lay_rows, lay_bytes}
+use Rattle.fragments.proofs.Pool.{B, cut-rows, cut-joined, joined-append, joined-drop, joined_length, size-append, size-split}
 use Rattle.reassembly_state.specs.Limits.{frags_most}
 use Rattle.reassembly_state.specs.Model.{Queue, held}
 use Rattle.reassembly_state.specs.State.{count}
 use Rattle.reassembly_state.proofs.Parts.{drop-take, moved_down}
 use Rattle.streams_model.specs.State.{State, rows_held, fragments, own}
-use Rattle.streams_model.specs.Among.{mine, rows_before, rows_behind, bytes_before, bytes_behind, before, behind, among}
-use Rattle.streams_model.proofs.Laws.{Sound, fragments-length, sums-total}
-use Rattle.streams_model.proofs.Among.{rows_split, bytes-split, before-length, before-size, own-length, own-bytes, behind-length, whole}
+use Rattle.streams_model.specs.Among.{mine, rows_before, rows_behind, bytes_before, bytes_behind, before, behind}
+use Rattle.streams_model.proofs.Laws.{Sound, sums-total}
+use Rattle.streams_model.proofs.Among.{rows_split, bytes-split, before-length, before-size, own-bytes, whole}
 
 module _ {A : Type 0} where
   -- a list over the front part of what was laid, as long as that part

@@ -1,23 +1,22 @@
 -- Room made behind a stream: the new fragment stands there, those behind the stream have moved up, and the stream's own are as they were.
 -- Assumes nothing.
 use mathlib.Core.Path.{◌≡◌, refl, sym, ap, ◌∙◌}
-use mathlib.Core.Bool.{Bool, true, false}
+use mathlib.Core.Bool.{false}
 use mathlib.Core.List.{List, [], ◌∷◌, ◌++◌, map, append_assoc, map-append, append-nil}
-use Prim.Native.Nat.{ℕ, suc, ◌+◌, ◌-◌, ◌≤◌, ◌<◌}
+use Prim.Native.Nat.{ℕ, ◌+◌, ◌≤◌, ◌<◌}
 use native.Mathlib.Omega.{arith}
 use lib.ListN.{length, take, drop, length-append, length-map}
 use lib.Seq.{length-take-le, take-take, take_at, take-append-le}
 use Rattle.wire_model.specs.BigEndian.{over}
 use Rattle.wire_model.specs.Facts.{over-length}
 use Rattle.moves_model.specs.Lists.{put}
-use Rattle.table.specs.Rows.{ahead_of}
 use Rattle.table.specs.declared.Row.{Row}
 use Rattle.table.proofs.Columns.{map-take}
 use Rattle.fragments.specs.Frag.{Frag, row_of}
 use Rattle.fragments.specs.Words.{size, joined}
 use Rattle.fragments.specs.Pool.{cut, lay_rows, lay_bytes}
-use Rattle.fragments.proofs.Pool.{B, Fit, fit_cut, fit_put, cut-rows, cut-size, cut-take, total-take, joined-append, joined_length, laid-view, size-append, size-put}
-use Rattle.reassembly_state.specs.Limits.{frags_most, bytes_most}
+use Rattle.fragments.proofs.Pool.{B, fit_cut, fit_put, cut-rows, cut-size, cut-take, total-take, joined-append, joined_length, laid-view, size-append, size-put}
+use Rattle.reassembly_state.specs.Limits.{frags_most}
 use Rattle.reassembly_state.specs.Model.{Queue, held}
 use Rattle.reassembly_state.specs.State.{count}
 use Rattle.reassembly_state.specs.State as one
@@ -25,7 +24,7 @@ use Rattle.reassembly_state.specs.Rows.{first_ordered, ordered_rows, set_at, set
 use Rattle.reassembly_state.proofs.Parts.{drop-take, put-length}
 use Rattle.reassembly_state.specs.declared.Counts.{Counts}
 use Rattle.streams_model.specs.State.{State, rows_held, bytes_said, fragments, own}
-use Rattle.streams_model.specs.Among.{among_counts, among_none, mine, rows_before, rows_behind, bytes_before, bytes_behind, before, behind, among, OneMore, Ready}
+use Rattle.streams_model.specs.Among.{among_counts, among_none, mine, rows_before, rows_behind, bytes_before, before, behind, among, OneMore, Ready}
 use Rattle.streams_model.proofs.Laws.{Sound, fragments-length, sums-total}
 use Rattle.streams_model.proofs.Among.{one_sound, rows_split, before-length, own-length, whole, take-three, among-front, among-sum, among_none_sound, among_none-view, behind-length}
 use Rattle.streams_model.proofs.Moved.{over-front}

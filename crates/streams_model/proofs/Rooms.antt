@@ -1,6 +1,6 @@
 -- Room among the streams, by their counts; and that there is room for one more in the table and the pool then.
 -- Assumes nothing.
-use mathlib.Core.Path.{◌≡◌, refl, sym, ap, ◌∙◌}
+use mathlib.Core.Path.{◌≡◌, refl, ap}
 use mathlib.Core.Bool.{Bool, true, ◌&&◌}
 use mathlib.Core.List.{List, [], ◌∷◌, map}
 use Prim.Native.Nat.{ℕ, ◌+◌, ◌*◌, ◌<◌, ◌≤◌}
@@ -10,7 +10,7 @@ use lib.Dec.{leb}
 use lib.ListN.{length, get_or, set, length-set, length-map}
 use Rattle.fragments.specs.Frag.{Frag}
 use Rattle.reassembly_state.specs.Limits.{frags_most, bytes_most}
-use Rattle.reassembly_state.specs.Model.{Queue, held}
+use Rattle.reassembly_state.specs.Model.{Queue}
 use Rattle.reassembly_state.specs.State.{count, counts}
 use Rattle.reassembly_state.specs.declared.Counts.{Counts}
 use Rattle.reassembly_state.proofs.Laid.{counts-count}

@@ -1,6 +1,6 @@
 -- Eight streams as they are lent: counts by value, rows of one table, bytes of one pool; what each stream holds, and every call.
 -- Assumes nothing.
-use Rattle.std.specs.Prelude.{ℕ, ◌+◌, Bool, true, false, not, ◌||◌, ◌&&◌, cond, List, [], ◌∷◌, map, ltb, leb, eqb, length, take, drop, get_or, set}
+use Rattle.std.specs.Prelude.{ℕ, ◌+◌, Bool, true, false, not, ◌||◌, ◌&&◌, List, [], ◌∷◌, map, ltb, leb, eqb, length, take, drop, get_or, set}
 use Rattle.std.proofs.Math.Option as option
 use Rattle.wire_model.specs.Refusal.{Refusal, none, refuse, when, first, Told, says}
 use Rattle.data_fields.specs.declared.ChunkPayloadData.{ChunkPayloadData}

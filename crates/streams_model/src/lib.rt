@@ -5,9 +5,8 @@ ghost use Rattle.std.specs.Prelude.{◌≡◌, ◌<◌, get_or, set};
 ghost use Rattle.streams_model.specs.Limits.{streams_most};
 ghost use Rattle.streams_model.specs.Shape.{queues_of, no_counts, fresh_streams};
 
-use chunks::Flag;
 use reassembly_fresh::fresh;
-use reassembly_state::{Counts, Done, Took};
+use reassembly_state::Counts;
 
 // The sizes, stated once. `specs/Limits.antt` states them once for the proofs.
 pub const STREAMS: usize = 8;
@@ -33,24 +32,6 @@ pub struct Streams {
     pub s5: Counts,
     pub s6: Counts,
     pub s7: Counts,
-}
-
-#[derive(Clone, Copy)]
-pub struct Pushed {
-    pub answer: Flag,
-    pub streams: Streams,
-}
-
-#[derive(Clone, Copy)]
-pub struct Taken {
-    pub answer: Took,
-    pub streams: Streams,
-}
-
-#[derive(Clone, Copy)]
-pub struct Forwarded {
-    pub answer: Done,
-    pub streams: Streams,
 }
 
 impl Streams {
@@ -87,22 +68,20 @@ impl Streams {
         }
     }
 
-    // The same, with other counts of a stream.
-    pub fn with(self, stream: usize, counts: Counts) -> Self
+    // Other counts of a stream.
+    pub fn put_at(&mut self, stream: usize, counts: Counts)
         requires { stream < streams_most }
-        ensures { queues_of result ≡ set (queues_of self) stream counts }
+        ensures { queues_of self.new ≡ set (queues_of self.old) stream counts }
     {
-        let mut changed = self;
         match stream {
-            0 => changed.s0 = counts,
-            1 => changed.s1 = counts,
-            2 => changed.s2 = counts,
-            3 => changed.s3 = counts,
-            4 => changed.s4 = counts,
-            5 => changed.s5 = counts,
-            6 => changed.s6 = counts,
-            _ => changed.s7 = counts,
+            0 => self.s0 = counts,
+            1 => self.s1 = counts,
+            2 => self.s2 = counts,
+            3 => self.s3 = counts,
+            4 => self.s4 = counts,
+            5 => self.s5 = counts,
+            6 => self.s6 = counts,
+            _ => self.s7 = counts,
         }
-        changed
     }
 }

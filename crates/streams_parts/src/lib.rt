@@ -84,14 +84,14 @@ pub fn among_front(streams: Streams, stream: usize) -> Among
     }
 }
 
-// The streams with such counts of one, which are made its own again.
-pub fn put_back(streams: Streams, stream: usize, queue: Counts, before: Sum, behind: Sum) -> Streams
+// Such counts of a stream, which are made its own again.
+pub fn put_back(streams: &mut Streams, stream: usize, queue: Counts, before: Sum, behind: Sum)
     requires stream_lt_streams_most { stream < streams_most }
     requires rows_le_finished { before.rows ≤ queue.finished }
     requires rows_le_ordered { behind.rows ≤ queue.ordered }
     requires bytes_bound { before.bytes + behind.bytes ≤ queue.n_bytes }
-    ensures { queues_of result ≡ set (queues_of streams) stream (alone_counts queue before.rows before.bytes behind.rows behind.bytes) }
+    ensures { queues_of streams.new ≡ set (queues_of streams.old) stream (alone_counts queue before.rows before.bytes behind.rows behind.bytes) }
 {
     let own = counts_alone(queue, before, behind);
-    streams.with(stream, own)
+    streams.put_at(stream, own);
 }

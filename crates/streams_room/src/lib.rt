@@ -45,8 +45,7 @@ pub fn has_room(streams: Streams, stream: usize, more: usize) -> bool
     }
     let mut frags: usize = 0;
     let mut bytes: usize = 0;
-    let mut i: usize = 0;
-    while i < STREAMS {
+    for i in 0..STREAMS {
         let queue = streams.at(i);
         let n = raised(
             queue.finished + (queue.unordered + queue.ordered),
@@ -55,7 +54,6 @@ pub fn has_room(streams: Streams, stream: usize, more: usize) -> bool
             stream,
         );
         let size = raised(queue.n_bytes, more, i, stream);
-        i += 1;
         frags += draw(n, OWN_FRAGMENTS);
         bytes += draw(size, OWN_BYTES);
     }

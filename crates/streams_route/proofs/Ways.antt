@@ -1,6 +1,6 @@
 -- Which way a push to a stream goes: refused, another stream's, by the mark U or without it.
 -- Assumes nothing.
-use mathlib.Core.Path.{◌≡◌, refl, sym, ap, ◌∙◌}
+use mathlib.Core.Path.{◌≡◌, sym, ap, ◌∙◌}
 use mathlib.Core.Bool.{Bool, true, false}
 use mathlib.Core.List.{List}
 use Prim.Native.Nat.{ℕ, ◌<◌, ◌≤◌}
@@ -9,7 +9,6 @@ use lib.Dec.{eqb}
 use lib.ListN.{length}
 use Rattle.wire_model.specs.Refusal.{none, refuse, says}
 use Rattle.data_fields.specs.declared.ChunkPayloadData.{ChunkPayloadData}
-use Rattle.fragments.specs.Frag.{Frag}
 use Rattle.reassembly_state.specs.Limits.{frags_most}
 use Rattle.reassembly_state.specs.Model.{push, push_unordered, push_ordered}
 use Rattle.reassembly_state.specs.State.{counts, fragment_of}

@@ -4,69 +4,27 @@
 
 ghost use Rattle.std.specs.Prelude.{◌≤◌};
 
-use chunks::{Flag, Number};
 use data_fields::ChunkPayloadData;
-use reassembly_state::{BYTES, Took, WORDS};
+use print::Quoted;
+use reassembly_state::{BYTES, WORDS};
+use refusal::Refusal;
 use std::io;
 use std::io::{BufWriter, Write};
 use streams_model::Streams;
 
 fn main(rt: HostRuntime) -> io::Result<()> {
     let mut writer = BufWriter::new(rt.alloc(), rt.stdout())?;
-    let mut table = [0u32; WORDS];
-    let mut pool = [0u8; BYTES];
-    let streams = filled(&mut writer, &mut table, &mut pool)?;
-    let streams = freed(&mut writer, streams, &mut table, &mut pool)?;
-    let streams = message(&mut writer, streams, &mut table, &mut pool, 0)?;
-    let streams = message(&mut writer, streams, &mut table, &mut pool, 7)?;
-    totals(&mut writer, streams, &table, &pool)?;
+    let mut held = Held {
+        streams: Streams::new(1000),
+        table: [0; WORDS],
+        pool: [0; BYTES],
+    };
+    held.filled(&mut writer)?;
+    held.freed(&mut writer)?;
+    held.message(&mut writer, 0)?;
+    held.message(&mut writer, 7)?;
+    held.totals(&mut writer)?;
     writer.flush()
-}
-
-// One stream takes all that is common, two more what is their own; there is no ninth.
-fn filled<W: Write>(
-    writer: &mut W,
-    table: &mut [u32; WORDS],
-    pool: &mut [u8; BYTES],
-) -> io::Result<Streams> {
-    let streams = Streams::new(1000);
-    let streams = fill(writer, streams, table, pool, 3, 300000, 400)?;
-    let streams = fill(writer, streams, table, pool, 0, 0, 16)?;
-    let streams = fill(writer, streams, table, pool, 7, 700000, 16)?;
-    fill(writer, streams, table, pool, 8, 0, 0)
-}
-
-// An unordered skip on the first of them, how many bytes it holds then, and what another may hold now.
-fn freed<W: Write>(
-    writer: &mut W,
-    streams: Streams,
-    table: &mut [u32; WORDS],
-    pool: &mut [u8; BYTES],
-) -> io::Result<Streams> {
-    let left = streams_forward_unordered::forward_tsn_for_unordered(
-        streams, table, pool, 3, 300199,
-    );
-    held(
-        writer,
-        left.streams,
-        table,
-        pool,
-        3,
-        b"Stream % skips and holds ",
-        b"\n",
-    )?;
-    fill(writer, left.streams, table, pool, 7, 700000, 84)
-}
-
-// What these two hold in the end.
-fn totals<W: Write>(
-    writer: &mut W,
-    streams: Streams,
-    table: &[u32; WORDS],
-    pool: &[u8; BYTES],
-) -> io::Result<()> {
-    held(writer, streams, table, pool, 3, b"", b" of stream 3, ")?;
-    held(writer, streams, table, pool, 7, b"", b" of stream 7.\n")
 }
 
 // A chunk of a stream, the first or the last of its message or neither.
@@ -83,124 +41,119 @@ fn chunk(stream: u16, tsn: u32, unordered: bool, first: bool, last: bool) -> Chu
     }
 }
 
-// So many unordered fragments of one byte for a stream, each the first of its message, with a TSN between each two.
-fn push_many(
+// An unordered fragment of one byte, the first of its message.
+fn loose(stream: u16, tsn: u32) -> ChunkPayloadData {
+    chunk(stream, tsn, true, true, false)
+}
+
+// The streams, and what is lent to each call.
+#[derive(Drop)]
+struct Held {
     streams: Streams,
-    table: &mut [u32; WORDS],
-    pool: &mut [u8; BYTES],
-    stream: u16,
-    base: u32,
-    n: u32,
-) -> Streams
-    requires base_bound { base ≤ 700000 }
-    requires n_bound { n ≤ 1000 }
-{
-    let mut now = streams;
-    for i in 0..n {
-        let tsn = base + i * 2;
-        let loose = chunk(stream, tsn, true, true, false);
-        let left = streams_push::push(now, table, pool, stream, loose, b"x");
-        now = left.streams;
+    table: [u32; WORDS],
+    pool: [u8; BYTES],
+}
+
+impl Held {
+    // One stream takes all that is common, two more what is their own; there is no ninth.
+    fn filled<W: Write>(&mut self, writer: &mut W) -> io::Result<()> {
+        self.fill(writer, 3, 300000, 400)?;
+        self.fill(writer, 0, 0, 16)?;
+        self.fill(writer, 7, 700000, 16)?;
+        self.fill(writer, 8, 0, 0)
     }
-    now
-}
 
-// These, and then one more, whose answer is told.
-fn fill<W: Write>(
-    writer: &mut W,
-    streams: Streams,
-    table: &mut [u32; WORDS],
-    pool: &mut [u8; BYTES],
-    stream: u16,
-    base: u32,
-    n: u32,
-) -> io::Result<Streams>
-    requires base_bound { base ≤ 700000 }
-    requires n_bound { n ≤ 1000 }
-{
-    let now = push_many(streams, table, pool, stream, base, n);
-    held(
-        writer,
-        now,
-        table,
-        pool,
-        stream,
-        b"Stream % holds ",
-        b", one more: ",
-    )?;
-    let loose = chunk(stream, base + 90000, true, true, false);
-    push(writer, now, table, pool, loose, b"x")
-}
-
-// Pushes a chunk to its stream, and tells the answer.
-fn push<W: Write>(
-    writer: &mut W,
-    streams: Streams,
-    table: &mut [u32; WORDS],
-    pool: &mut [u8; BYTES],
-    c: ChunkPayloadData,
-    user_data: &[u8],
-) -> io::Result<Streams> {
-    let left = streams_push::push(streams, table, pool, c.stream_identifier, c, user_data);
-    let answer = left.answer;
-    match answer {
-        Flag::Is(whole) => print::flag_line(writer, b"complete: ", whole)?,
-        Flag::Refused(number) => print::with_number(writer, b"refusal %\n", number as u64)?,
+    // An unordered skip on the first of them, how many bytes it holds then, and what another may hold now.
+    fn freed<W: Write>(&mut self, writer: &mut W) -> io::Result<()> {
+        let _ = streams_forward_unordered::forward_tsn_for_unordered(
+            &mut self.streams,
+            &mut self.table,
+            &mut self.pool,
+            3,
+            300199,
+        );
+        write!(writer, "Stream 3 skips and holds ")?;
+        self.bytes(writer, 3)?;
+        writeln!(writer)?;
+        self.fill(writer, 7, 700000, 84)
     }
-    Ok(left.streams)
-}
 
-// An ordered message of two chunks, the last first, and what comes of it.
-fn message<W: Write>(
-    writer: &mut W,
-    streams: Streams,
-    table: &mut [u32; WORDS],
-    pool: &mut [u8; BYTES],
-    stream: u16,
-) -> io::Result<Streams> {
-    print::with_number(writer, b"Stream %: ", stream as u64)?;
-    let last = chunk(stream, 7, false, false, true);
-    let now = push(writer, streams, table, pool, last, b"lo")?;
-    let first = chunk(stream, 6, false, true, false);
-    let now = push(writer, now, table, pool, first, b"hel")?;
-    read(writer, now, table, pool, stream)
-}
-
-// The next message of a stream.
-fn read<W: Write>(
-    writer: &mut W,
-    streams: Streams,
-    table: &mut [u32; WORDS],
-    pool: &mut [u8; BYTES],
-    stream: u16,
-) -> io::Result<Streams> {
-    let mut buffer = [0u8; 8];
-    let taken = streams_take::read(streams, table, pool, stream, &mut buffer);
-    let answer = taken.answer;
-    match answer {
-        Took::Message(m) => print::quoted(writer, print::first(&buffer, m.size))?,
-        Took::Nothing => print::text(writer, b"none")?,
-        Took::Refused(number) => print::number(writer, number as u64)?,
+    // What these two hold in the end.
+    fn totals<W: Write>(&self, writer: &mut W) -> io::Result<()> {
+        self.bytes(writer, 3)?;
+        write!(writer, " of stream 3, ")?;
+        self.bytes(writer, 7)?;
+        writeln!(writer, " of stream 7.")
     }
-    print::text(writer, b"\n")?;
-    Ok(taken.streams)
-}
 
-// How many bytes a stream holds, between two texts; a % in the first stands for the stream.
-fn held<W: Write>(
-    writer: &mut W,
-    streams: Streams,
-    table: &[u32; WORDS],
-    pool: &[u8; BYTES],
-    stream: u16,
-    before: &[u8],
-    after: &[u8],
-) -> io::Result<()> {
-    print::with_number(writer, before, stream as u64)?;
-    let answer = streams_look::get_num_bytes(streams, table, pool, stream);
-    match answer {
-        Number::Is(n) => print::number(writer, n as u64)?,
-        Number::Refused(number) => print::with_number(writer, b"refusal %", number as u64)?,
+    // So many fragments for a stream, with a TSN between each two, and then one more, whose answer is told.
+    fn fill<W: Write>(&mut self, writer: &mut W, stream: u16, base: u32, n: u32) -> io::Result<()>
+        requires base_bound { base ≤ 700000 }
+        requires n_bound { n ≤ 1000 }
+    {
+        for i in 0..n {
+            let _ = self.pushed(loose(stream, base + i * 2), b"x");
+        }
+        write!(writer, "Stream {stream} holds ")?;
+        self.bytes(writer, stream)?;
+        write!(writer, ", one more: ")?;
+        self.push(writer, loose(stream, base + 90000), b"x")
     }
-    print::text(writer, after)
+
+    // Pushes a chunk to its stream.
+    fn pushed(&mut self, c: ChunkPayloadData, user_data: &[u8]) -> Result<bool, Refusal> {
+        streams_push::push(
+            &mut self.streams,
+            &mut self.table,
+            &mut self.pool,
+            c.stream_identifier,
+            c,
+            user_data,
+        )
+    }
+
+    // The same, and tells the answer.
+    fn push<W: Write>(
+        &mut self,
+        writer: &mut W,
+        c: ChunkPayloadData,
+        user_data: &[u8],
+    ) -> io::Result<()> {
+        match self.pushed(c, user_data) {
+            Ok(whole) => writeln!(writer, "complete: {}", print::yes_or_no(whole)),
+            Err(e) => writeln!(writer, "refusal {}", e.number()),
+        }
+    }
+
+    // An ordered message of two chunks, the last first, and what comes of it.
+    fn message<W: Write>(&mut self, writer: &mut W, stream: u16) -> io::Result<()> {
+        write!(writer, "Stream {stream}: ")?;
+        self.push(writer, chunk(stream, 7, false, false, true), b"lo")?;
+        self.push(writer, chunk(stream, 6, false, true, false), b"hel")?;
+        self.read(writer, stream)
+    }
+
+    // The next message of a stream.
+    fn read<W: Write>(&mut self, writer: &mut W, stream: u16) -> io::Result<()> {
+        let mut buffer = [0u8; 8];
+        match streams_take::read(
+            &mut self.streams,
+            &mut self.table,
+            &mut self.pool,
+            stream,
+            &mut buffer,
+        ) {
+            Ok(Some(m)) => writeln!(writer, "{}", Quoted(&buffer[..m.size.min(8)])),
+            Ok(None) => writeln!(writer, "none"),
+            Err(e) => writeln!(writer, "{}", e.number()),
+        }
+    }
+
+    // How many bytes a stream holds.
+    fn bytes<W: Write>(&self, writer: &mut W, stream: u16) -> io::Result<()> {
+        match streams_look::get_num_bytes(self.streams, &self.table, &self.pool, stream) {
+            Ok(n) => write!(writer, "{n}"),
+            Err(e) => write!(writer, "refusal {}", e.number()),
+        }
+    }
 }

@@ -1,20 +1,18 @@
 -- What is asked first of every take, and what a look says of the message in turn.
 -- Assumes nothing.
-use mathlib.Core.Path.{◌≡◌, sym, ap, ◌∙◌}
-use mathlib.Core.Bool.{Bool, true, false, cond}
+use mathlib.Core.Path.{◌≡◌, refl, sym, ap, ◌∙◌}
+use mathlib.Core.Bool.{true, false, cond}
 use mathlib.Core.List.{List}
 use Prim.Native.Nat.{ℕ, suc, ◌-◌, ◌<◌, ◌≤◌}
 use native.Mathlib.Omega.{arith}
 use native.Mathlib.Decide.{dec_le}
 use borrow.Author.Tests.{lt-ltb, le-ltb, le-leb, lt-leb}
 use lib.Dec.{ltb}
-use lib.ListN.{set}
-use Rattle.wire_model.specs.Refusal.{Refusal, none, refuse, Told, says}
+use Rattle.wire_model.specs.Refusal.{none, refuse, says}
 use Rattle.chunks.specs.declared.Chunks.{Chunks}
 use Rattle.reassembly_state.specs.Answers.{message_held}
-use Rattle.reassembly_state.specs.Rows.{without_message}
 use Rattle.reassembly_state.specs.declared.Counts.{Counts}
-use Rattle.reassembly_state.specs.Model.{Message, no_message, turn, readable, taken}
+use Rattle.reassembly_state.specs.Model.{no_message, readable, taken}
 use Rattle.streams_model.specs.Limits.{streams_most}
 use Rattle.streams_model.specs.State.{State, unsound, own, reads, lay_taken, read, is_readable}
 use Rattle.streams_turn.specs.Turned.{Turned}
@@ -51,19 +49,10 @@ module _ (s : State) (j : ℕ) where
       unfolding read
       read_is h = rw (e, lt-leb streams_most j h)
 
--- ── the counts without a message that came ──
-
-pub came-set : (c : Chunks) {t : Told Message} → t ≡ says none (message_held c) → (q : Counts) (k n : ℕ) (qs : List Counts) (j : ℕ)
-    → set qs j (without_message q k n c.ssn) ≡ cond t.values.comes (set qs j (without_message q k n t.values.ssn)) qs
+-- a message in hand is one that came
+pub held_comes : (c : Chunks) → (message_held c).comes ≡ true
 unfolding message_held
-came-set c e q k n qs j = rw e
-
-pub came : (c : Chunks) {t : Told Message} → t ≡ says none (message_held c) → t.values.comes ≡ true
-unfolding message_held
-came c e = ap (λ (t : Told Message). t.values.comes) e
-
-pub came_none : {r : Refusal} {t : Told Message} → t ≡ says r no_message → (x qs : List Counts) → qs ≡ cond t.values.comes x qs
-came_none e x qs = rw e
+held_comes c = refl
 
 -- the same bounds of the same counts
 pub fits_own : {q c : Counts} → q ≡ c → {n k : ℕ} → (n ≤ c.n_bytes) × (k ≤ cond (ltb 0 c.finished) c.finished c.ordered) → (n ≤ q.n_bytes) × (k ≤ cond (ltb 0 q.finished) q.finished q.ordered)

@@ -3,7 +3,7 @@
 use mathlib.Core.Path.{◌≡◌, refl, sym, ap, ◌∙◌}
 use mathlib.Core.Bool.{Bool, true, false, cond, true≢false}
 use mathlib.Core.List.{List, ◌++◌, append_assoc}
-use Prim.Native.Nat.{ℕ, suc, ◌+◌, ◌-◌, ◌≤◌, ◌<◌, min}
+use Prim.Native.Nat.{ℕ, suc, ◌+◌, ◌≤◌, ◌<◌, min}
 use native.Mathlib.Omega.{arith}
 use native.Mathlib.Decide.{dec_le}
 use borrow.Author.Tests.{lt-ltb, le-ltb}
@@ -18,7 +18,7 @@ use Rattle.table.specs.declared.Row.{Row}
 use Rattle.fragments.specs.Frag.{Frag, ends, of_row}
 use Rattle.fragments.specs.Words.{size, joined}
 use Rattle.fragments.specs.Pool.{lay_rows, lay_bytes}
-use Rattle.fragments.proofs.Pool.{size-append, size-split}
+use Rattle.fragments.proofs.Pool.{size-split}
 use Rattle.reassembly_state.specs.Limits.{frags_most}
 use Rattle.reassembly_state.specs.Model.{Queue, held, ready_set, Turn, finished_turn, ordered_turn, through_end, turn, readable, Message, no_message, message_of, taken}
 use Rattle.reassembly_state.specs.State.{count, counts}
@@ -27,8 +27,8 @@ use Rattle.reassembly_state.specs.Rows.{oldest, message_by, Out, out, taken_out,
 use Rattle.reassembly_state.specs.declared.Counts.{Counts}
 use Rattle.reassembly_turn.proofs.Messages.{oldest-is}
 use Rattle.streams_model.specs.State.{State, rows_held, fragments, queue_of, own, with_own, reads, lay_taken}
-use Rattle.streams_model.specs.Among.{among_none, up_to, mine, rows_before, before, behind, among}
-use Rattle.streams_model.proofs.Laws.{Sound, fragments-length}
+use Rattle.streams_model.specs.Among.{among_none, up_to, mine, rows_before, before, behind}
+use Rattle.streams_model.proofs.Laws.{Sound}
 use Rattle.streams_model.proofs.Among.{rows_split, whole, before-length, own-length, own-bytes, own-counts, own_is, among_none-view, put_back}
 use Rattle.streams_model.proofs.Front.{own-again}
 use Rattle.streams_model.proofs.Left.{stands}
@@ -260,16 +260,3 @@ module _ (s : State) (k : Sound s) (full : length s.rows ≡ frags_most) (j : �
 
           together : {t u : Told Message} {x y : State} {p q : List ℕ} → t ≡ u → x ≡ y → p ≡ q → reads t x p ≡ reads u y q
           together a b c = rw (a, b, c)
-
-      -- either way, as the counts are settled
-      pub settled : {b : Told Message} → b ≡ a → {q : Counts} → q ≡ mine s j
-          → {qs : List Counts} → qs ≡ cond a.values.comes (set s.queues j (without_message q k' sz a.values.ssn)) s.queues
-          → reads b (record { queues = qs; rows = rows; pool = pool }) buffer' ≡ lay_taken s j (taken m buffer)
-      settled {b} b-is mine-is {qs} is = go a.values.comes refl
-        where
-          chosen : (x : Bool) (q r : List Counts) → qs ≡ cond a.values.comes q r → a.values.comes ≡ x → qs ≡ cond x q r
-          chosen x q r e f = rw f at e
-
-          go : (x : Bool) → a.values.comes ≡ x → reads b (record { queues = qs; rows = rows; pool = pool }) buffer' ≡ lay_taken s j (taken m buffer)
-          go true x = rw b-is (comes_is x (ap (λ (c : Counts). without_message c k' sz a.values.ssn) mine-is) (chosen true _ _ is x))
-          go false x = rw (b-is, chosen false _ _ is x) (comes_not x)

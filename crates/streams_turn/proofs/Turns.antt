@@ -7,20 +7,19 @@ use Prim.Native.Nat.{ℕ, zero, suc, ◌+◌, ◌-◌, ◌≤◌, ◌<◌}
 use native.Mathlib.Omega.{arith}
 use borrow.Author.Tests.{lt-ltb, le-ltb, eq-eqb, ne_eqb}
 use native.Mathlib.Decide.{dec_le}
-use lib.Dec.{ltb, eqb}
+use lib.Dec.{eqb}
 use lib.ListN.{length, take, drop, length-append, length-drop, length-take}
-use lib.Seq.{take-append_seam, take-append-le, drop-append-add, drop-append_seam, take-take, take_all}
+use lib.Seq.{take-append_seam, take-append-le, drop-append-add, drop-append_seam}
 use Rattle.serial_model.specs.Serial.{next, before}
 use Rattle.moves_model.specs.Lists.{gone}
 use Rattle.fragments.specs.Frag.{Frag, ssn_of, has_ssn}
 use Rattle.fragments.specs.Words.{size, while, past}
 use Rattle.fragment_sets.specs.Sets.{complete}
-use Rattle.fragments.proofs.Pool.{size-append, size-gone}
+use Rattle.fragments.proofs.Pool.{size-gone}
 use Rattle.fragments.proofs.Words.{while-past}
 use Rattle.reassembly_state.specs.Model.{Queue, queue, held, ready_set, moved_on, Turn, first_ssn, ordered_turn, finished_turn, turn, through_end}
 use Rattle.reassembly_state.specs.State.{counts}
 use Rattle.reassembly_state.specs.Rows.{without_message}
-use Rattle.reassembly_state.specs.declared.Counts.{Counts}
 use Rattle.reassembly_state.proofs.Parts.{gone-first, gone-last}
 use Rattle.streams_turn.specs.Turned.{first_of}
 

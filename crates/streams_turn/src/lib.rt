@@ -12,9 +12,11 @@ ghost use Rattle.streams_model.specs.State.{state_of, rows_held, unsound, own, r
 ghost use Rattle.streams_model.specs.Among.{among_none, Others};
 ghost use Rattle.streams_turn.specs.Turned.{Turned};
 
+use chunks::Chunks;
 use loose_fragments::Span;
-use reassembly_state::{Counts, FRAGMENTS, Took};
-use streams_model::{Streams, Taken};
+use reassembly_state::FRAGMENTS;
+use refusal::Refusal;
+use streams_model::Streams;
 use streams_parts::Among;
 
 // Where it stands among all that is held; an empty run where there is none.
@@ -41,36 +43,9 @@ pub fn in_turn(streams: Streams, table: &[u32], stream: usize, place: Among) -> 
     }
 }
 
-// The streams without a message that came of one, and its answer.
-fn settle(streams: Streams, stream: usize, own: Counts, left: reassembly_message::Among) -> Taken
-    requires stream_lt_streams_most { stream < streams_most }
-    requires size_bound { (took_told left.answer).values.comes ≡ true → (left.size ≤ own.n_bytes) × (left.k ≤ cond (ltb 0 own.finished) own.finished own.ordered) }
-    ensures answer_value { took_told result.answer ≡ took_told left.answer }
-    ensures streams_value { queues_of result.streams ≡ cond (took_told left.answer).values.comes (set (queues_of streams) stream (without_message own left.k left.size (took_told left.answer).values.ssn)) (queues_of streams) }
-{
-    let answer = left.answer;
-    match answer {
-        Took::Message(hand) => Taken {
-            answer: Took::Message(hand),
-            streams: streams.with(
-                stream,
-                reassembly_turn::without(own, left.k, left.size, hand.ssn),
-            ),
-        },
-        Took::Nothing => Taken {
-            answer: Took::Nothing,
-            streams,
-        },
-        Took::Refused(number) => Taken {
-            answer: Took::Refused(number),
-            streams,
-        },
-    }
-}
-
 // Takes the message of k fragments at row `from` of all that is held.
 fn take_run(
-    streams: Streams,
+    streams: &mut Streams,
     table: &mut [u32],
     pool: &mut [u8],
     stream: usize,
@@ -78,51 +53,50 @@ fn take_run(
     place: Among,
     from: usize,
     k: usize,
-) -> Taken
+) -> Result<Option<Chunks>, Refusal>
     requires table_len { length table.old ≡ 4 * frags_most }
-    requires pool_value { unsound (state_of streams table.old pool.old) ≡ false }
+    requires pool_value { unsound (state_of streams.old table.old pool.old) ≡ false }
     requires stream_lt_streams_most { stream < streams_most }
-    requires others { Others (queues_of streams) stream place.before.rows place.before.bytes place.behind.rows place.behind.bytes }
-    requires queue_value { place.queue ≡ among_none (queues_of streams) stream }
-    requires turned { Turned (state_of streams table.old pool.old) stream from (from + k) }
+    requires others { Others (queues_of streams.old) stream place.before.rows place.before.bytes place.behind.rows place.behind.bytes }
+    requires queue_value { place.queue ≡ among_none (queues_of streams.old) stream }
+    requires turned { Turned (state_of streams.old table.old pool.old) stream from (from + k) }
     requires k_nonzero { 0 < k }
-    ensures { reads (took_told result.answer) (state_of result.streams table.new pool.new) buffer.new ≡ lay_taken (state_of streams table.old pool.old) stream (taken (own (state_of streams table.old pool.old) stream) buffer.old) }
+    ensures { reads (took_told result) (state_of streams.new table.new pool.new) buffer.new ≡ lay_taken (state_of streams.old table.old pool.old) stream (taken (own (state_of streams.old table.old pool.old) stream) buffer.old) }
 {
     let queue = place.queue;
     let behind = place.behind;
-    let own = streams.at(stream);
+    let mut own = streams.at(stream);
     let held = queue.finished + (queue.unordered + queue.ordered) + behind.rows;
     let bytes = queue.n_bytes + behind.bytes;
     let off = fragments::sum_long(table, FRAGMENTS, 0, from);
     let ordered = own.finished == 0;
-    let left = reassembly_message::take_among(
+    let hand = reassembly_message::take_among(
         table, pool, buffer, held, bytes, from, k, off, ordered,
-    );
-    settle(streams, stream, own, left)
+    )?;
+    reassembly_turn::without(&mut own, k, hand.size, hand.ssn);
+    streams.put_at(stream, own);
+    Ok(Some(hand))
 }
 
 // Takes it to the front of the lent buffer.
 pub fn take(
-    streams: Streams,
+    streams: &mut Streams,
     table: &mut [u32],
     pool: &mut [u8],
     stream: usize,
     buffer: &mut [u8],
-) -> Taken
+) -> Result<Option<Chunks>, Refusal>
     requires table_len { length table.old ≡ 4 * frags_most }
-    requires pool_value { unsound (state_of streams table.old pool.old) ≡ false }
+    requires pool_value { unsound (state_of streams.old table.old pool.old) ≡ false }
     requires stream_lt_streams_most { stream < streams_most }
-    ensures { reads (took_told result.answer) (state_of result.streams table.new pool.new) buffer.new ≡ lay_taken (state_of streams table.old pool.old) stream (taken (own (state_of streams table.old pool.old) stream) buffer.old) }
+    ensures { reads (took_told result) (state_of streams.new table.new pool.new) buffer.new ≡ lay_taken (state_of streams.old table.old pool.old) stream (taken (own (state_of streams.old table.old pool.old) stream) buffer.old) }
 {
-    let place = streams_parts::among_front(streams, stream);
-    let turn = in_turn(streams, table, stream, place);
+    let place = streams_parts::among_front(*streams, stream);
+    let turn = in_turn(*streams, table, stream, place);
     let from = turn.from;
     let k = turn.to - from;
     if k == 0 {
-        return Taken {
-            answer: Took::Nothing,
-            streams,
-        };
+        return Ok(None);
     }
     take_run(streams, table, pool, stream, buffer, place, from, k)
 }

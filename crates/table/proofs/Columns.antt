@@ -9,7 +9,7 @@ use lib.Seq.{length-take-le, take_at, drop_at, drop-drop, take_all, take-append-
 use Rattle.wire_model.specs.BigEndian.{over}
 use Rattle.moves_model.specs.Lists.{put, gone, slice, turned}
 use Rattle.moves_model.proofs.Turned.{turned-long, turned_app}
-use Rattle.table.specs.Rows.{row, zipped, rows_of}
+use Rattle.table.specs.Rows.{zipped, rows_of}
 use Rattle.table.specs.declared.Row.{Row}
 
 -- ── the fields of rows ──

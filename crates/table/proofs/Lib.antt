@@ -1,2 +1,3 @@
 pub mod Columns
 pub mod Scans
+pub mod Words

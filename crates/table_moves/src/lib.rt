@@ -15,10 +15,10 @@ pub fn close_rows(table: &mut [u32], size: usize, n: usize, at: usize, k: usize)
 {
     let ids = 2 * size;
     let ppis = 3 * size;
-    word_moves::close_words(table, n, at, k);
-    word_moves::close_words(table, size + n, size + at, k);
-    word_moves::close_words(table, ids + n, ids + at, k);
-    word_moves::close_words(table, ppis + n, ppis + at, k);
+    moves::close(table, n, at, k);
+    moves::close(table, size + n, size + at, k);
+    moves::close(table, ids + n, ids + at, k);
+    moves::close(table, ppis + n, ppis + at, k);
 }
 
 // The rows from b up to e moved in front of those from a up to b.
@@ -31,8 +31,8 @@ pub fn turn_rows(table: &mut [u32], size: usize, a: usize, b: usize, e: usize)
 {
     let ids = 2 * size;
     let ppis = 3 * size;
-    word_moves::turn_words(table, a, b, e);
-    word_moves::turn_words(table, size + a, size + b, size + e);
-    word_moves::turn_words(table, ids + a, ids + b, ids + e);
-    word_moves::turn_words(table, ppis + a, ppis + b, ppis + e);
+    moves::turn(table, a, b, e);
+    moves::turn(table, size + a, size + b, size + e);
+    moves::turn(table, ids + a, ids + b, ids + e);
+    moves::turn(table, ppis + a, ppis + b, ppis + e);
 }

@@ -15,11 +15,9 @@ fn has_before(table: &[u32], size: usize, from: usize, n: usize, tsn: u32) -> bo
 {
     let tsns = size + from;
     let mut found = false;
-    let mut i: usize = 0;
-    while i < n {
-        let earlier = serial_tsns::sna32lt(table[tsns + i], tsn);
+    for held in &table[tsns..tsns + n] {
+        let earlier = serial_tsns::sna32lt(*held, tsn);
         found = found | earlier;
-        i += 1;
     }
     found
 }
@@ -31,13 +29,10 @@ pub fn walk_back(table: &[u32], size: usize, from: usize, n: usize, tsn: u32) ->
     ensures { result ≡ up_to_last (tsn_before tsn) (take n (drop from (rows_of size table.now))) }
 {
     let tsns = size + from;
-    let mut place = n;
-    while 0 < place {
-        let at = place - 1;
+    for at in (0..n).rev() {
         if serial_tsns::sna32lt(table[tsns + at], tsn) {
-            return place;
+            return at + 1;
         }
-        place = at;
     }
     0
 }

@@ -17,10 +17,10 @@ pub fn put_row(table: &mut [u32], size: usize, n: usize, at: usize, new: Row)
 {
     let ids = 2 * size;
     let ppis = 3 * size;
-    word_moves::put_word(table, n, at, new.head);
-    word_moves::put_word(table, size + n, size + at, new.tsn);
-    word_moves::put_word(table, ids + n, ids + at, new.id);
-    word_moves::put_word(table, ppis + n, ppis + at, new.ppi);
+    moves::put_one(table, n, at, new.head);
+    moves::put_one(table, size + n, size + at, new.tsn);
+    moves::put_one(table, ids + n, ids + at, new.id);
+    moves::put_one(table, ppis + n, ppis + at, new.ppi);
 }
 
 // One row written over that at an index.

@@ -12,10 +12,8 @@ pub fn has_tsn(table: &[u32], size: usize, from: usize, n: usize, tsn: u32) -> b
 {
     let tsns = size + from;
     let mut found = false;
-    let mut i: usize = 0;
-    while i < n {
-        found = found | (table[tsns + i] == tsn);
-        i += 1;
+    for held in &table[tsns..tsns + n] {
+        found = found | (*held == tsn);
     }
     found
 }
@@ -29,10 +27,8 @@ pub fn has_stream(table: &[u32], size: usize, from: usize, n: usize, stream: u16
     let wanted = stream as u32;
     let ids = 2 * size + from;
     let mut found = false;
-    let mut i: usize = 0;
-    while i < n {
-        found = found | (table[ids + i] / 65536 == wanted);
-        i += 1;
+    for id in &table[ids..ids + n] {
+        found = found | (*id / 65536 == wanted);
     }
     found
 }
@@ -44,12 +40,8 @@ pub fn find_tsn(table: &[u32], size: usize, from: usize, n: usize, tsn: u32) -> 
     ensures { result ≡ ahead_of (has_tsn tsn) (take n (drop from (rows_of size table.now))) }
 {
     let tsns = size + from;
-    let mut i: usize = 0;
-    while i < n {
-        if table[tsns + i] == tsn {
-            return i;
-        }
-        i += 1;
-    }
-    i
+    table[tsns..tsns + n]
+        .iter()
+        .position(|held| *held == tsn)
+        .unwrap_or(n)
 }

@@ -19,10 +19,8 @@ pub fn sum_short(table: &[u32], size: usize, from: usize, n: usize) -> usize
     ensures { result ≡ total short_length (take n (drop from (rows_of size table.now))) }
 {
     let mut sum: u32 = 0;
-    let mut i: usize = 0;
-    while i < n {
-        sum += short_length(table[from + i]);
-        i += 1;
+    for head in &table[from..from + n] {
+        sum += short_length(*head);
     }
     sum as usize
 }

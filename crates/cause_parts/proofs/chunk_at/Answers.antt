@@ -4,6 +4,7 @@ use mathlib.Core.List.{List}
 use native.Mathlib.Omega.{arith}
 use lib.ListN.{length, drop, drop_of_length-le}
 use lib.Seq.{get_or-drop}
+use Rattle.std.proofs.lemmas.Result.{err_from_is_err_and}
 use Rattle.wire.proofs.Writing.{left-whole}
 use Rattle.wire.proofs.Exists.{Bytes}
 use Rattle.chunk.specs.Header.{HeaderFront}
@@ -20,41 +21,42 @@ there raw at bytes = header-there (drop at raw) (λ i. rw (get_or-drop at raw i 
 pub returns-then-at-raw : goal.returns-then-at-raw
 returns-then-at-raw c = let a = c.args in empty_holds_none (drop a.at a.raw.now) (drop_of_length-le a.raw.now {i = a.at} (omega arith))
 
-pub returns-in-Refused : goal.returns-in-Refused
-returns-in-Refused c =
+pub returns-in_err-front : goal.returns-in_err-front
+returns-in_err-front c =
     let raw = c.args.raw.now in
     let at = c.args.at in
     let bytes = drop at raw in
     let some : at < length raw = omega arith in
-    let told = (rw (left-whole raw at) at c.unmarshal-front.ensures) (there raw at (λ i. (c.type_inv.raw i).fits)) in
-    chunk-refused raw at some (told-refused (front_checks bytes) (front_header bytes) c.unmarshal-front.result told c.in-Refused.is)
+    let e = err_from_is_err_and c.from_residual.result c.from_residual.ensures.1 in
+    let told = (rw (left-whole raw at) at c.in_err-front.ensures) (there raw at (λ i. (c.type_inv.raw i).fits)) in
+    rw (e.1, e.2) (chunk-refused raw at some (told-refused (front_checks bytes) (front_header bytes) told))
 
 pub returns-then-kind-eq-ERROR : goal.returns-then-kind-eq-ERROR
 returns-then-kind-eq-ERROR c =
     let raw = c.args.raw.now in
     let at = c.args.at in
-    let h = c.in-Header.h in
+    let h = c.in_ok-front.front in
     let some : at < length raw = omega arith in
-    let told = (rw (left-whole raw at) at c.unmarshal-front.ensures) (there raw at (λ i. (c.type_inv.raw i).fits)) in
-    let t = told-taken (front_checks (drop at raw)) (front_header (drop at raw)) c.unmarshal-front.result told c.in-Header.is in
+    let told = (rw (left-whole raw at) at c.in_ok-front.ensures) (there raw at (λ i. (c.type_inv.raw i).fits)) in
+    let t = told-taken (front_checks (drop at raw)) (front_header (drop at raw)) told in
     error_followed raw at some h.typ h.flags h.length t.0 t.1 c.if-kind-eq-ERROR.true
 
 pub returns-then-kind-eq-ABORT : goal.returns-then-kind-eq-ABORT
 returns-then-kind-eq-ABORT c =
     let raw = c.args.raw.now in
     let at = c.args.at in
-    let h = c.in-Header.h in
+    let h = c.in_ok-front.front in
     let some : at < length raw = omega arith in
-    let told = (rw (left-whole raw at) at c.unmarshal-front.ensures) (there raw at (λ i. (c.type_inv.raw i).fits)) in
-    let t = told-taken (front_checks (drop at raw)) (front_header (drop at raw)) c.unmarshal-front.result told c.in-Header.is in
+    let told = (rw (left-whole raw at) at c.in_ok-front.ensures) (there raw at (λ i. (c.type_inv.raw i).fits)) in
+    let t = told-taken (front_checks (drop at raw)) (front_header (drop at raw)) told in
     abort_followed raw at some h.typ h.flags h.length t.0 t.1 c.if-kind-eq-ERROR.false c.if-kind-eq-ABORT.true
 
-pub returns-else-kind-eq-ABORT : goal.returns-else-kind-eq-ABORT
-returns-else-kind-eq-ABORT c =
+pub returns : goal.returns
+returns c =
     let raw = c.args.raw.now in
     let at = c.args.at in
-    let h = c.in-Header.h in
+    let h = c.in_ok-front.front in
     let some : at < length raw = omega arith in
-    let told = (rw (left-whole raw at) at c.unmarshal-front.ensures) (there raw at (λ i. (c.type_inv.raw i).fits)) in
-    let t = told-taken (front_checks (drop at raw)) (front_header (drop at raw)) c.unmarshal-front.result told c.in-Header.is in
+    let told = (rw (left-whole raw at) at c.in_ok-front.ensures) (there raw at (λ i. (c.type_inv.raw i).fits)) in
+    let t = told-taken (front_checks (drop at raw)) (front_header (drop at raw)) told in
     not_followed raw at some h.typ h.flags h.length t.0 t.1 c.if-kind-eq-ERROR.false c.if-kind-eq-ABORT.false

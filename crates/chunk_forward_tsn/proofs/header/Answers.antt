@@ -1,32 +1,28 @@
 -- `chunk_forward_tsn::header` meets its contract: the check of whole pairs stands behind those of the type.
+use mathlib.Core.Path.{◌∙◌}
 use Prim.Native.Nat.{◌%◌}
+use borrow.Author.Rules.{rules}
 use borrow.Author.Tests.{eq-eqb, ne_eqb}
 use lib.ListN.{length}
+use Rattle.std.proofs.lemmas.Result.{err_from_is_err_and}
+use Rattle.refusal.specs.declared.Refusal.TheVariants.{BadForwardTsn}
 use Rattle.chunk.specs.Header.{kind_checks}
-use Rattle.chunk.proofs.Headers.{more-refused, more_failed, more-passed}
+use Rattle.chunk.proofs.Headers.{told_short, more-refused, more_failed, more-passed}
 use Rattle.chunk_forward_tsn.specs.ForwardTsn.{pairs_only}
 use Rattle.chunk_forward_tsn.proofs.header.Goals as goal
 
-pub returns-then-length-ne0 : goal.returns-then-length-ne0
-returns-then-length-ne0 c =
-    let lent = length c.args.raw.now in
-    record {
-      result_value = λ f. more_failed (kind_checks 192 8 12 lent f.fields) pairs_only f.fields c.unmarshal_as-any.result (c.unmarshal_as-any.ensures.result_value f) c.in-Header.is (rw (ne_eqb (c.in-Header.h.length % 4) 0 c.if-length-ne0.true));
-      room = tt;
-    }
+pub returns-in_err-h-clause-result_value : goal.returns-in_err-h-clause-result_value
+returns-in_err-h-clause-result_value c f =
+    let told = told_short BadForwardTsn (λ e d p. search rules) c.unmarshal_as.result c.map_err.result c.map_err.ensures.cases ∙ c.unmarshal_as.ensures.result_value 12 f in
+    let e = err_from_is_err_and c.from_residual.result c.from_residual.ensures.1 in
+    rw (e.1, e.2) (more-refused (kind_checks 192 8 12 (length c.args.raw.now) f.fields) pairs_only f.fields (rw c.in_err-h.was at told))
 
-pub returns-in-Refused : goal.returns-in-Refused
-returns-in-Refused c =
-    let lent = length c.args.raw.now in
-    record {
-      result_value = λ f. more-refused (kind_checks 192 8 12 lent f.fields) pairs_only f.fields c.unmarshal_as-any.result (c.unmarshal_as-any.ensures.result_value f) c.in-Refused.is;
-      room = tt;
-    }
+pub returns-then-h-ne0-clause-result_value : goal.returns-then-h-ne0-clause-result_value
+returns-then-h-ne0-clause-result_value c f =
+    let told = told_short BadForwardTsn (λ e d p. search rules) c.unmarshal_as.result c.map_err.result c.map_err.ensures.cases ∙ c.unmarshal_as.ensures.result_value 12 f in
+    more_failed (kind_checks 192 8 12 (length c.args.raw.now) f.fields) pairs_only f.fields (rw c.in_ok-h.was at told) (rw (ne_eqb (c.in_ok-h.h.length % 4) 0 c.if-h-ne0.true))
 
-pub returns-else-length-ne0 : goal.returns-else-length-ne0
-returns-else-length-ne0 c =
-    let lent = length c.args.raw.now in
-    record {
-      result_value = λ f. more-passed (kind_checks 192 8 12 lent f.fields) pairs_only f.fields c.unmarshal_as-any.result (c.unmarshal_as-any.ensures.result_value f) c.in-Header.is (rw (eq-eqb (c.in-Header.h.length % 4) 0 c.if-length-ne0.false));
-      room = rw c.in-Header.is at c.unmarshal_as-any.ensures.room;
-    }
+pub returns-clause-result_value : goal.returns-clause-result_value
+returns-clause-result_value c f =
+    let told = told_short BadForwardTsn (λ e d p. search rules) c.unmarshal_as.result c.map_err.result c.map_err.ensures.cases ∙ c.unmarshal_as.ensures.result_value 12 f in
+    more-passed (kind_checks 192 8 12 (length c.args.raw.now) f.fields) pairs_only f.fields (rw c.in_ok-h.was at told) (rw (eq-eqb (c.in_ok-h.h.length % 4) 0 c.if-h-ne0.false))

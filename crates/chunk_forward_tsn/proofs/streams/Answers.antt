@@ -1,36 +1,20 @@
 -- `chunk_forward_tsn::streams` meets its contract: the header decides what is refused, and else the part is what its length says.
 use mathlib.Core.Path.{ap}
-use Prim.Native.Nat.{◌≤◌}
 use lib.ListN.{length}
+use Rattle.std.proofs.lemmas.Result.{err_from_is_err_and}
 use Rattle.chunk.specs.Layout.{Header}
 use Rattle.chunk.proofs.Headers.{told-refused, told-taken}
 use Rattle.chunk_forward_tsn.specs.ForwardTsn.{forward_checks, pairs_part}
 use Rattle.chunk_forward_tsn.proofs.streams.Goals as goal
 
-pub slice_bounds-result-count : goal.slice_bounds-result-count
-slice_bounds-result-count c =
-    let room : (let s = c.in-Header.h.length in (8 ≤ s) × (s ≤ length c.args.raw.now)) = rw c.in-Header.is at c.header-any.ensures.room in
-    room.0
-
-pub slice_bounds-result-start : goal.slice_bounds-result-start
-slice_bounds-result-start c =
-    let room : (let s = c.in-Header.h.length in (8 ≤ s) × (s ≤ length c.args.raw.now)) = rw c.in-Header.is at c.header-any.ensures.room in
-    room.0
-
-pub slice_bounds-result-end-in-Header : goal.slice_bounds-result-end-in-Header
-slice_bounds-result-end-in-Header c =
-    let room : (let s = c.in-Header.h.length in (8 ≤ s) × (s ≤ length c.args.raw.now)) = rw c.in-Header.is at c.header-any.ensures.room in
-    room.1
-
-pub returns-in-Refused : goal.returns-in-Refused
+pub returns-in_err-h : goal.returns-in_err-h
 unfolding pairs_part
-returns-in-Refused c f =
-    let lent = length c.args.raw.now in
-    rw (told-refused (forward_checks lent f.fields) f.fields c.header-any.result (c.header-any.ensures.result_value f) c.in-Refused.is)
+returns-in_err-h c f =
+    let e = err_from_is_err_and c.from_residual.result c.from_residual.ensures.1 in
+    rw (e.1, e.2, told-refused (forward_checks (length c.args.raw.now) f.fields) f.fields (c.in_err-h.ensures.result_value f))
 
-pub returns-in-Header : goal.returns-in-Header
+pub returns : goal.returns
 unfolding pairs_part
-returns-in-Header c f =
-    let lent = length c.args.raw.now in
-    let t = told-taken (forward_checks lent f.fields) f.fields c.header-any.result (c.header-any.ensures.result_value f) c.in-Header.is in
+returns c f =
+    let t = told-taken (forward_checks (length c.args.raw.now) f.fields) f.fields (c.in_ok-h.ensures.result_value f) in
     rw (t.0, ← (ap (λ (x : Header). x.size) t.1))

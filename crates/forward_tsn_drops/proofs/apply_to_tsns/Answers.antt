@@ -2,6 +2,7 @@
 use mathlib.Core.Path.{◌≡◌, ap}
 use mathlib.Core.Bool.{false}
 use Prim.Native.Nat.{ℕ}
+use Rattle.std.proofs.lemmas.Result.{err_from_is_err_and}
 use Rattle.wire_model.specs.Refusal.{refuse, says}
 use Rattle.payload_model.specs.Queue.{after, unsound, counted}
 use Rattle.payload_queue.specs.Queue.{queue_of}
@@ -12,20 +13,21 @@ use Rattle.forward_tsn_drops.proofs.apply_to_tsns.Goals as goal
 pub returns-then-sna32lte : goal.returns-then-sna32lte
 unfolding applied_to_tsns counted
 returns-then-sna32lte c =
-    let of = let a = c.args in queue_of a.queue a.table.now in
-    let sound : unsound of ≡ false = look_is _ _ (rw c.in-Is.is at c.len-held.ensures) in
+    let of = let a = c.args in queue_of a.queue.now a.table.now in
+    let sound : unsound of ≡ false = look_is _ _ c.in_ok-len.ensures in
     rw (sound, ← c.sna32lte.ensures, c.if-sna32lte.true)
 
-pub returns-in-Refused : goal.returns-in-Refused
+pub returns-in_err-len : goal.returns-in_err-len
 unfolding applied_to_tsns counted
-returns-in-Refused c =
-    let of = let a = c.args in queue_of a.queue a.table.now in
-    let l = look_refused (unsound of) _ (rw c.in-Refused.is at c.len-held.ensures) in
-    rw l.0 (ap (λ (k : ℕ). after (says (refuse k) false) of) l.1)
+returns-in_err-len c =
+    let of = let a = c.args in queue_of a.queue.now a.table.now in
+    let l = look_refused (unsound of) _ c.in_err-len.ensures in
+    let e = err_from_is_err_and c.from_residual.result c.from_residual.ensures.1 in
+    rw (e.1, e.2, l.0) (ap (λ (k : ℕ). after (says (refuse k) false) of) l.1)
 
-pub returns-else-sna32lte : goal.returns-else-sna32lte
+pub returns : goal.returns
 unfolding applied_to_tsns counted
-returns-else-sna32lte c =
-    let of = let a = c.args in queue_of a.queue a.table.now in
-    let sound : unsound of ≡ false = look_is _ _ (rw c.in-Is.is at c.len-held.ensures) in
+returns c =
+    let of = let a = c.args in queue_of a.queue.now a.table.now in
+    let sound : unsound of ≡ false = look_is _ _ c.in_ok-len.ensures in
     rw (sound, ← c.sna32lte.ensures, c.if-sna32lte.false) c.pop_up_to.ensures

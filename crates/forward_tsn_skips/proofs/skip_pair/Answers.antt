@@ -8,10 +8,10 @@ use Rattle.forward_tsn_skips.proofs.skip_pair.Goals as goal
 
 pub returns-then-identifier-queue : goal.returns-then-identifier-queue
 unfolding pair_skipped
-returns-then-identifier-queue c = let a = c.args in rw (ne_eqb a.identifier a.queue.si c.if-identifier-queue.true)
-
-pub returns : goal.returns
-unfolding pair_skipped
-returns c =
+returns-then-identifier-queue c =
     let a = c.args in
-    rw (eq-eqb a.identifier a.queue.si c.if-identifier-queue.false) (ap (λ (x : After Bool). x.state) c.forward_tsn_for_ordered-left.ensures)
+    rw (eq-eqb a.identifier a.queue.now.counts.si c.if-identifier-queue.true) (ap (λ (x : After Bool). x.state) c.forward_tsn_for_ordered.ensures)
+
+pub returns-else-identifier-queue : goal.returns-else-identifier-queue
+unfolding pair_skipped
+returns-else-identifier-queue c = let a = c.args in rw (ne_eqb a.identifier a.queue.now.counts.si c.if-identifier-queue.false)

@@ -17,8 +17,8 @@ returns-then-at-k c =
       pool_after = gone-last-bytes a.n rows a.pool.now a.held p.table_value p.held_in_bounds a.at a.k c.if-at-k.true;
     }
 
-pub close_bytes-requires : goal.close_bytes-requires
-close_bytes-requires c =
+pub close-requires : goal.close-requires
+close-requires c =
     let a = c.args in
     let rows = rows_of a.size a.table.now in
     let front = total-take (a.at + a.k) a.n rows (omega arith) in
@@ -35,5 +35,5 @@ returns c =
     let pool = a.pool.now in
     record {
       table_after = rw c.close_rows.ensures (gone-rows a.n rows pool a.held p.table_value p.held_in_bounds a.at a.k);
-      pool_after = rw (c.close_bytes.ensures, p.off_value, p.bytes_value) (gone-bytes a.n rows pool a.held p.table_value p.held_in_bounds a.at a.k (omega arith));
+      pool_after = rw (c.close.ensures, p.off_value, p.bytes_value) (gone-bytes a.n rows pool a.held p.table_value p.held_in_bounds a.at a.k (omega arith));
     }

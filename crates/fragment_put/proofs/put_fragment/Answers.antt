@@ -6,13 +6,13 @@ use Rattle.table.specs.Rows.{rows_of}
 use Rattle.fragments.proofs.Pool.{total-take, put-rows, put-bytes}
 use Rattle.fragment_put.proofs.put_fragment.Goals as goal
 
-pub put_bytes-requires : goal.put_bytes-requires
-put_bytes-requires c =
+pub put-requires : goal.put-requires
+put-requires c =
     let a = c.args in
     let front = total-take a.at a.n (rows_of a.size a.table.now) (omega arith) in
     record {
-      off_le_total = omega (arith, c.start_of-off.ensures);
-      src_in_bounds = omega arith;
+      at_le_total = omega (arith, c.start_of-off.ensures);
+      new_in_bounds = omega arith;
     }
 
 pub returns : goal.returns
@@ -24,5 +24,5 @@ returns c =
     let small : a.held ≤ length pool = omega arith in
     record {
       table_after = rw c.put_row.ensures (put-rows a.n rows pool a.held p.table_value small a.at a.row a.bytes.now p.head_value);
-      pool_after = rw (c.put_bytes.ensures, c.start_of-off.ensures) (put-bytes a.n rows pool a.held p.table_value small a.at a.row a.bytes.now (omega arith));
+      pool_after = rw (c.put.ensures, c.start_of-off.ensures) (put-bytes a.n rows pool a.held p.table_value small a.at a.row a.bytes.now (omega arith));
     }

@@ -6,6 +6,3 @@ use Rattle.fragment_sets.proofs.is_complete.Given as goal
 
 abbrev pub invariant-loop-i : goal.invariant-loop-i
 invariant-loop-i l = (l.tsns ≡ l.size + l.from) × (l.end ≡ l.n - 1) × Whole l.size l.table l.from l.n l.i
-
-abbrev pub decreases-loop-i : goal.decreases-loop-i
-decreases-loop-i l = l.end - l.i

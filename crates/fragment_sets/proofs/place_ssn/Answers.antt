@@ -10,32 +10,33 @@ use Rattle.table.proofs.Scans.{last_end, last-passed, last_none, id_at}
 use Rattle.fragments.specs.Frag.{of_row, ssn_before}
 use Rattle.fragment_sets.proofs.place_ssn.Goals as goal
 
-pub loop-place-init : goal.loop-place-init
-loop-place-init c = (omega arith, refl, refl)
+pub loop-at-init : goal.loop-at-init
+loop-at-init c = (refl, refl)
 
 pub returns-then-sna16lt : goal.returns-then-sna16lt
 returns-then-sna16lt c =
     let a = c.args in
     let rs = rows_of a.size a.table.now in
-    let k = c.loop-place.place - 1 in
+    let k = c.loop-at.at - 1 in
     let e = rows_long a.size a.table.now c.requires.table_len in
     let w = id_at a.size a.table.now c.requires.table_len (a.from + k) (omega arith) {q = 2 * a.size + a.from + k} (omega arith) in
     let b : of_row (ssn_before a.ssn) (get_or rs (a.from + k) blank) ≡ true = rw (← w) (sym c.sna16lt.ensures ∙ c.if-sna16lt.true) in
-    sym (c.loop-place.invariant.2 ∙ last_end (of_row (ssn_before a.ssn)) rs a.from k c.loop-place.place (omega arith) (omega arith) b)
+    let up : k + 1 ≡ c.loop-at.at = omega arith in
+    up ∙ sym (c.loop-at.invariant.1 ∙ last_end (of_row (ssn_before a.ssn)) rs a.from k c.loop-at.at (omega arith) (omega arith) b)
 
-pub loop-place-preserved : goal.loop-place-preserved
-loop-place-preserved c =
+pub loop-at-preserved : goal.loop-at-preserved
+loop-at-preserved c =
     let a = c.args in
     let rs = rows_of a.size a.table.now in
-    let k = c.loop-place.place - 1 in
+    let k = c.loop-at.at - 1 in
     let e = rows_long a.size a.table.now c.requires.table_len in
     let w = id_at a.size a.table.now c.requires.table_len (a.from + k) (omega arith) {q = 2 * a.size + a.from + k} (omega arith) in
     let b : of_row (ssn_before a.ssn) (get_or rs (a.from + k) blank) ≡ false = rw (← w) (sym c.sna16lt.ensures ∙ c.if-sna16lt.false) in
-    (omega arith, refl, c.loop-place.invariant.2 ∙ last-passed (of_row (ssn_before a.ssn)) rs a.from k c.loop-place.place (omega arith) (omega arith) b)
+    (refl, c.loop-at.invariant.1 ∙ last-passed (of_row (ssn_before a.ssn)) rs a.from k c.loop-at.at (omega arith) (omega arith) b)
 
 pub returns : goal.returns
 returns c =
     let a = c.args in
-    let e : c.loop-place.place ≡ 0 = omega arith in
-    let i = rw e at c.loop-place.invariant.2 in
+    let e : c.loop-at.at ≡ 0 = omega arith in
+    let i = rw e at c.loop-at.invariant.1 in
     sym (i ∙ last_none (of_row (ssn_before a.ssn)))

@@ -41,8 +41,8 @@ overflow_add-end c =
     let w = within (rows_of a.size a.table.now) a.a a.b a.e a.n p.a_le_b p.b_le_e p.e_le_n in
     omega (arith, c.sum_long-first.ensures, c.sum_long.ensures, c.sum_long-2.ensures)
 
-pub turn_bytes-requires : goal.turn_bytes-requires
-turn_bytes-requires c =
+pub turn-requires : goal.turn-requires
+turn-requires c =
     let a = c.args in
     let p = c.requires in
     let w = within (rows_of a.size a.table.now) a.a a.b a.e a.n p.a_le_b p.b_le_e p.e_le_n in
@@ -58,6 +58,6 @@ returns c =
     let long = rows_long a.size a.table.now c.requires.table_len in
     record {
       table_after = rw c.turn_rows.ensures (turned_rows a.n rows pool _ refl fit a.a a.b a.e p.a_le_b p.b_le_e p.e_le_n (omega arith));
-      pool_after = rw (c.turn_bytes.ensures, c.sum_long-first.ensures, c.sum_long.ensures, c.sum_long-2.ensures, total_up a.a a.b rows p.a_le_b, total_up a.b a.e rows p.b_le_e)
+      pool_after = rw (c.turn.ensures, c.sum_long-first.ensures, c.sum_long.ensures, c.sum_long-2.ensures, total_up a.a a.b rows p.a_le_b, total_up a.b a.e rows p.b_le_e)
           (turned-bytes a.n rows pool _ refl fit a.a a.b a.e p.a_le_b p.b_le_e p.e_le_n);
     }

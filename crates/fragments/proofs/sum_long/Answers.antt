@@ -1,25 +1,30 @@
--- `fragments::sum_long` meets its contract: after i turns the sum is that of the first i rows.
-use mathlib.Core.Path.{◌≡◌, refl}
-use Prim.Native.Nat.{◌+◌}
+-- `fragments::sum_long` meets its contract: the sum over the heads is that over the rows, and it is small.
+use mathlib.Core.Path.{ap, ◌∙◌}
 use native.Mathlib.Omega.{arith}
-use Rattle.table.specs.Rows.{rows_of, total}
-use Rattle.table.proofs.Columns.{rows_long}
-use Rattle.table.proofs.Scans.{rows_more, total-snoc, head_at}
+use borrow.Author.Rules.{rules}
+use lib.ListN.{take, drop}
+use Rattle.std.specs.List.{sum_by}
+use Rattle.std.proofs.lemmas.Iterator.{YieldsList-from_slice, YieldsList-from_map}
+use Rattle.std.proofs.lemmas.Iterator.Consumers.{sum_by_from_yields_List, fits_by_from_yields_list}
+use Rattle.table.specs.Rows.{rows_of}
+use Rattle.table.proofs.Words.{those_long, total-words}
+use Rattle.fragments.specs.Frag.{long_length}
+use Rattle.fragments.proofs.Pool.{total_small}
 use Rattle.fragments.proofs.sum_long.Goals as goal
 
-pub loop-i-init : goal.loop-i-init
-unfolding total
-loop-i-init c = (omega arith, omega arith, refl)
-
-pub loop-i-preserved : goal.loop-i-preserved
-loop-i-preserved c =
+pub sum-requires-clause-fits : goal.sum-requires-clause-fits
+sum-requires-clause-fits c =
     let a = c.args in
-    let n = a.size in
-    let ws = a.table.now in
-    let long = c.requires.table_len in
-    let i = c.loop-i.i in
-    let e = rows_long n ws long in
-    (omega arith, omega arith, rw (rows_more (rows_of n ws) a.from i (omega arith), total-snoc, ← c.loop-i.invariant.2, ← (head_at n ws long (a.from + i) (omega arith) refl), ← c.long_length-sum.ensures))
+    let rs = take a.n (drop a.from (rows_of a.size a.table.now)) in
+    let is = ap (sum_by long_length) c.heads-heads.ensures ∙ total-words long_length rs in
+    fits_by_from_yields_list long_length c.heads-heads.result.now c.map.result _
+    (YieldsList-from_map _ long_length (YieldsList-from_slice c.heads-heads.result.now cc) c.map.ensures.closure (λ x r q k. search rules))
+    (omega (arith, c.requires.size_bound, is, total_small rs, those_long a.size a.table.now c.requires.table_len a.from a.n c.requires.n_bound))
 
 pub returns : goal.returns
-returns c = let e : c.loop-i.i ≡ c.args.n = omega arith in rw e at c.loop-i.invariant.2
+returns c =
+    let a = c.args in
+    let rs = take a.n (drop a.from (rows_of a.size a.table.now)) in
+    sum_by_from_yields_List long_length c.heads-heads.result.now c.map.result c.sum.result c.sum.ensures.ran
+    (YieldsList-from_map _ long_length (YieldsList-from_slice c.heads-heads.result.now cc) c.map.ensures.closure (λ x r q k. search rules))
+    ∙ ap (sum_by long_length) c.heads-heads.ensures ∙ total-words long_length rs

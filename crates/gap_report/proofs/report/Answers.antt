@@ -4,8 +4,8 @@ use Rattle.gap_model.specs.Gap.{blocks}
 use Rattle.gap_model.proofs.Walk.{held, held_few, said, said_short, said_short'}
 use Rattle.gap_report.proofs.report.Goals as goal
 
-pub write_blocks-count-requires : goal.write_blocks-count-requires
-write_blocks-count-requires c =
+pub write_blocks-requires : goal.write_blocks-requires
+write_blocks-requires c =
     let a = c.args in
     let f = held_few a.size a.n a.table.now c.requires.table_len c.requires.n_le_size a.cumulative in
     record {
@@ -18,7 +18,7 @@ write_blocks-count-requires c =
 pub returns-then-n-ends : goal.returns-then-n-ends
 returns-then-n-ends c =
     let a = c.args in
-    let w = c.write_blocks-count.ensures in
+    let w = c.write_blocks.ensures in
     let f = held_few a.size a.n a.table.now c.requires.table_len c.requires.n_le_size a.cumulative in
     said (blocks a.cumulative (held a.size a.n a.table.now)) a.starts.now a.ends.now (omega arith) (omega arith) (w.value, (w.starts_after, w.ends_after))
 
@@ -35,5 +35,5 @@ returns-then-needed-ends c =
 pub returns : goal.returns
 returns c =
     let a = c.args in
-    let w = c.write_blocks-count-2.ensures in
+    let w = c.write_blocks-2.ensures in
     said (blocks a.cumulative (held a.size a.n a.table.now)) a.starts.now a.ends.now (omega arith) (omega arith) (w.value, (w.starts_after, w.ends_after))

@@ -17,7 +17,7 @@ returns-then-unsound c = rw (sym (c.unsound.ensures c.args.messages.now) ∙ c.i
 
 pub abandon-requires : goal.abandon-requires
 abandon-requires c =
-    let of = queue_of c.args.counts c.args.table.now c.args.messages.now in
+    let of = queue_of c.args.counts.now c.args.table.now c.args.messages.now in
     let is_sound : unsound of ≡ false = sym (c.unsound.ensures of.messages) ∙ c.if-unsound.false in
     let ok : Sound (as_tsns of) = sound of is_sound in
     record {
@@ -28,7 +28,7 @@ abandon-requires c =
 
 pub sum_short-sum-requires : goal.sum_short-sum-requires
 sum_short-sum-requires c =
-    let of = queue_of c.args.counts c.args.table.now c.args.messages.now in
+    let of = queue_of c.args.counts.now c.args.table.now c.args.messages.now in
     let is_sound : unsound of ≡ false = sym (c.unsound.ensures of.messages) ∙ c.if-unsound.false in
     let ok : Sound (as_tsns of) = sound of is_sound in
     record {
@@ -39,7 +39,7 @@ sum_short-sum-requires c =
 
 pub overflow_sub-released : goal.overflow_sub-released
 overflow_sub-released c =
-    let of = queue_of c.args.counts c.args.table.now c.args.messages.now in
+    let of = queue_of c.args.counts.now c.args.table.now c.args.messages.now in
     let is_sound : unsound of ≡ false = sym (c.unsound.ensures of.messages) ∙ c.if-unsound.false in
     let long : length of.rows ≡ tsns_most = rows_long tsns_most c.args.table.now (omega arith) in
     let wide : length of.messages ≡ tsns_most = omega arith in
@@ -47,7 +47,7 @@ overflow_sub-released c =
 
 pub returns : goal.returns
 returns c =
-    let of = queue_of c.args.counts c.args.table.now c.args.messages.now in
+    let of = queue_of c.args.counts.now c.args.table.now c.args.messages.now in
     let is_sound : unsound of ≡ false = sym (c.unsound.ensures of.messages) ∙ c.if-unsound.false in
     let long : length of.rows ≡ tsns_most = rows_long tsns_most c.args.table.now (omega arith) in
     let wide : length of.messages ≡ tsns_most = omega arith in

@@ -19,7 +19,7 @@ returns-then-unsound c ms = rw (sym (c.unsound.ensures ms) ∙ c.if-unsound.true
 
 pub find_tsn-at-requires : goal.find_tsn-at-requires
 find_tsn-at-requires c =
-    let of : List ℕ → Queue = λ ms. queue_of c.args.counts c.args.table.now ms in
+    let of : List ℕ → Queue = λ ms. queue_of c.args.counts.now c.args.table.now ms in
     let is_sound : (ms : List ℕ) → unsound (of ms) ≡ false = λ ms. sym (c.unsound.ensures ms) ∙ c.if-unsound.false in
     let ok : (ms : List ℕ) → Sound (as_tsns (of ms)) = λ ms. sound (of ms) (is_sound ms) in
     record {
@@ -29,14 +29,14 @@ find_tsn-at-requires c =
 
 pub returns-then-count-at : goal.returns-then-count-at
 returns-then-count-at c ms =
-    let of : List ℕ → Queue = λ ms. queue_of c.args.counts c.args.table.now ms in
+    let of : List ℕ → Queue = λ ms. queue_of c.args.counts.now c.args.table.now ms in
     let is_sound : (ms : List ℕ) → unsound (of ms) ≡ false = λ ms. sym (c.unsound.ensures ms) ∙ c.if-unsound.false in
     let long : (ms : List ℕ) → length (of ms).rows ≡ tsns_most = λ ms. rows_long tsns_most c.args.table.now (omega arith) in
     acked_none (of ms) (is_sound ms) (long ms) c.args.tsn c.find_tsn-at.result c.find_tsn-at.ensures c.if-count-at.true
 
 pub row_at-row-requires : goal.row_at-row-requires
 row_at-row-requires c =
-    let of : List ℕ → Queue = λ ms. queue_of c.args.counts c.args.table.now ms in
+    let of : List ℕ → Queue = λ ms. queue_of c.args.counts.now c.args.table.now ms in
     let is_sound : (ms : List ℕ) → unsound (of ms) ≡ false = λ ms. sym (c.unsound.ensures ms) ∙ c.if-unsound.false in
     let ok : (ms : List ℕ) → Sound (as_tsns (of ms)) = λ ms. sound (of ms) (is_sound ms) in
     let within : c.find_tsn-at.result < tsns_most = omega (arith, c.if-count-at.false, (ok []).few) in
@@ -47,7 +47,7 @@ row_at-row-requires c =
 
 pub set_row-requires : goal.set_row-requires
 set_row-requires c =
-    let of : List ℕ → Queue = λ ms. queue_of c.args.counts c.args.table.now ms in
+    let of : List ℕ → Queue = λ ms. queue_of c.args.counts.now c.args.table.now ms in
     let is_sound : (ms : List ℕ) → unsound (of ms) ≡ false = λ ms. sym (c.unsound.ensures ms) ∙ c.if-unsound.false in
     let ok : (ms : List ℕ) → Sound (as_tsns (of ms)) = λ ms. sound (of ms) (is_sound ms) in
     let within : c.find_tsn-at.result < tsns_most = omega (arith, c.if-count-at.false, (ok []).few) in
@@ -56,16 +56,16 @@ set_row-requires c =
       at_lt_size = within;
     }
 
-pub overflow_sub-queue : goal.overflow_sub-queue
-overflow_sub-queue c =
-    let of : List ℕ → Queue = λ ms. queue_of c.args.counts c.args.table.now ms in
+pub overflow_sub-counts : goal.overflow_sub-counts
+overflow_sub-counts c =
+    let of : List ℕ → Queue = λ ms. queue_of c.args.counts.now c.args.table.now ms in
     let is_sound : (ms : List ℕ) → unsound (of ms) ≡ false = λ ms. sym (c.unsound.ensures ms) ∙ c.if-unsound.false in
     let long : (ms : List ℕ) → length (of ms).rows ≡ tsns_most = λ ms. rows_long tsns_most c.args.table.now (omega arith) in
-    acked_small (of []) (is_sound []) (long []) c.args.tsn c.find_tsn-at.result c.find_tsn-at.ensures (omega (arith, c.if-count-at.false)) c.row_at-row.result c.row_at-row.ensures
+    omega (arith, acked_small (of []) (is_sound []) (long []) c.args.tsn c.find_tsn-at.result c.find_tsn-at.ensures (omega (arith, c.if-count-at.false)) c.row_at-row.result c.row_at-row.ensures)
 
 pub returns : goal.returns
 returns c ms =
-    let of : List ℕ → Queue = λ ms. queue_of c.args.counts c.args.table.now ms in
+    let of : List ℕ → Queue = λ ms. queue_of c.args.counts.now c.args.table.now ms in
     let is_sound : (ms : List ℕ) → unsound (of ms) ≡ false = λ ms. sym (c.unsound.ensures ms) ∙ c.if-unsound.false in
     let long : (ms : List ℕ) → length (of ms).rows ≡ tsns_most = λ ms. rows_long tsns_most c.args.table.now (omega arith) in
     let q = of ms in

@@ -18,14 +18,14 @@ returns-then-unsound c = rw (sym (c.unsound.ensures c.args.messages.now) ∙ c.i
 
 pub returns-then-count-eq0 : goal.returns-then-count-eq0
 returns-then-count-eq0 c =
-    let of = queue_of c.args.counts c.args.table.now c.args.messages.now in
+    let of = queue_of c.args.counts.now c.args.table.now c.args.messages.now in
     let is_sound : unsound of ≡ false = sym (c.unsound.ensures of.messages) ∙ c.if-unsound.false in
     let long : length of.rows ≡ tsns_most = rows_long tsns_most c.args.table.now (omega arith) in
     popped-empty of is_sound long c.args.tsn c.if-count-eq0.true
 
 pub returns-then-row-tsn : goal.returns-then-row-tsn
 returns-then-row-tsn c =
-    let of = queue_of c.args.counts c.args.table.now c.args.messages.now in
+    let of = queue_of c.args.counts.now c.args.table.now c.args.messages.now in
     let is_sound : unsound of ≡ false = sym (c.unsound.ensures of.messages) ∙ c.if-unsound.false in
     let long : length of.rows ≡ tsns_most = rows_long tsns_most c.args.table.now (omega arith) in
     let some-held : 0 < of.count = omega (arith, c.if-count-eq0.false) in
@@ -33,7 +33,7 @@ returns-then-row-tsn c =
 
 pub close_rows-requires : goal.close_rows-requires
 close_rows-requires c =
-    let of = queue_of c.args.counts c.args.table.now c.args.messages.now in
+    let of = queue_of c.args.counts.now c.args.table.now c.args.messages.now in
     let is_sound : unsound of ≡ false = sym (c.unsound.ensures of.messages) ∙ c.if-unsound.false in
     let ok : Sound (as_tsns of) = sound of is_sound in
     let some-held : 0 < of.count = omega (arith, c.if-count-eq0.false) in
@@ -43,20 +43,20 @@ close_rows-requires c =
       k_bound = some-held;
     }
 
-pub close_numbers-requires : goal.close_numbers-requires
-close_numbers-requires c =
-    let of = queue_of c.args.counts c.args.table.now c.args.messages.now in
+pub close-requires : goal.close-requires
+close-requires c =
+    let of = queue_of c.args.counts.now c.args.table.now c.args.messages.now in
     let is_sound : unsound of ≡ false = sym (c.unsound.ensures of.messages) ∙ c.if-unsound.false in
     let ok : Sound (as_tsns of) = sound of is_sound in
     let some-held : 0 < of.count = omega (arith, c.if-count-eq0.false) in
     record {
-      n_in_bounds = omega (arith, ok.few);
-      k_bound = some-held;
+      total_in_bounds = omega (arith, ok.few);
+      k_bound = omega (arith, some-held);
     }
 
-pub overflow_sub-queue-2 : goal.overflow_sub-queue-2
-overflow_sub-queue-2 c =
-    let of = queue_of c.args.counts c.args.table.now c.args.messages.now in
+pub overflow_sub-counts-2 : goal.overflow_sub-counts-2
+overflow_sub-counts-2 c =
+    let of = queue_of c.args.counts.now c.args.table.now c.args.messages.now in
     let is_sound : unsound of ≡ false = sym (c.unsound.ensures of.messages) ∙ c.if-unsound.false in
     let long : length of.rows ≡ tsns_most = rows_long tsns_most c.args.table.now (omega arith) in
     let some-held : 0 < of.count = omega (arith, c.if-count-eq0.false) in
@@ -64,9 +64,9 @@ overflow_sub-queue-2 c =
 
 pub returns : goal.returns
 returns c =
-    let of = queue_of c.args.counts c.args.table.now c.args.messages.now in
+    let of = queue_of c.args.counts.now c.args.table.now c.args.messages.now in
     let is_sound : unsound of ≡ false = sym (c.unsound.ensures of.messages) ∙ c.if-unsound.false in
     let long : length of.rows ≡ tsns_most = rows_long tsns_most c.args.table.now (omega arith) in
     let some-held : 0 < of.count = omega (arith, c.if-count-eq0.false) in
-    rw c.sent_of.ensures
-    (popped-one of is_sound long some-held c.row_at-row.result c.row_at-row.ensures c.args.tsn c.if-row-tsn.false (get_or of.messages 0 0) refl c.close_rows.ensures c.close_numbers.ensures)
+    rw c.sent_of-sent.ensures
+    (popped-one of is_sound long some-held c.row_at-row.result c.row_at-row.ensures c.args.tsn c.if-row-tsn.false (get_or of.messages 0 0) refl c.close_rows.ensures c.close.ensures)

@@ -20,7 +20,7 @@ returns-then-unsound c = rw (sym (c.unsound.ensures c.args.messages.now) ∙ c.i
 
 pub has_tsn-requires : goal.has_tsn-requires
 has_tsn-requires c =
-    let of = queue_of c.args.counts c.args.table.now c.args.messages.now in
+    let of = queue_of c.args.counts.now c.args.table.now c.args.messages.now in
     let is_sound : unsound of ≡ false = sym (c.unsound.ensures of.messages) ∙ c.if-unsound.false in
     let ok : Sound (as_tsns of) = sound of is_sound in
     omega (arith, ok.few)
@@ -28,20 +28,20 @@ has_tsn-requires c =
 pub returns-then-has_tsn : goal.returns-then-has_tsn
 unfolding pushed_no_check
 returns-then-has_tsn c =
-    let of = queue_of c.args.counts c.args.table.now c.args.messages.now in
+    let of = queue_of c.args.counts.now c.args.table.now c.args.messages.now in
     let is_sound : unsound of ≡ false = sym (c.unsound.ensures of.messages) ∙ c.if-unsound.false in
     rw (is_sound, ← c.row_of-row.ensures, sym c.has_tsn.ensures ∙ c.if-has_tsn.true)
 
 pub returns-then-count-ge-TSNS : goal.returns-then-count-ge-TSNS
 unfolding pushed_no_check
 returns-then-count-ge-TSNS c =
-    let of = queue_of c.args.counts c.args.table.now c.args.messages.now in
+    let of = queue_of c.args.counts.now c.args.table.now c.args.messages.now in
     let is_sound : unsound of ≡ false = sym (c.unsound.ensures of.messages) ∙ c.if-unsound.false in
     rw (is_sound, ← c.row_of-row.ensures, sym c.has_tsn.ensures ∙ c.if-has_tsn.false, le-leb _ _ c.if-count-ge-TSNS.true)
 
 pub put_row-requires : goal.put_row-requires
 put_row-requires c =
-    let of = queue_of c.args.counts c.args.table.now c.args.messages.now in
+    let of = queue_of c.args.counts.now c.args.table.now c.args.messages.now in
     let within : c.place_tsn-at.result ≤ of.count = let in_held = last_within (tsn_before c.row_of-row.result.tsn) (held of) in let long : length (held of) ≤ of.count = simp length-take (omega arith) in omega (arith, c.place_tsn-at.ensures) in
     record {
       table_len = omega arith;
@@ -49,18 +49,18 @@ put_row-requires c =
       at_le_n = within;
     }
 
-pub put_number-requires : goal.put_number-requires
-put_number-requires c =
-    let of = queue_of c.args.counts c.args.table.now c.args.messages.now in
+pub put_one-requires : goal.put_one-requires
+put_one-requires c =
+    let of = queue_of c.args.counts.now c.args.table.now c.args.messages.now in
     let within : c.place_tsn-at.result ≤ of.count = let in_held = last_within (tsn_before c.row_of-row.result.tsn) (held of) in let long : length (held of) ≤ of.count = simp length-take (omega arith) in omega (arith, c.place_tsn-at.ensures) in
     record {
-      n_in_bounds = omega (arith, c.if-count-ge-TSNS.false);
-      at_le_n = within;
+      at_le_total = omega (arith, within);
+      total_in_bounds = omega (arith, c.if-count-ge-TSNS.false);
     }
 
-pub overflow_add-queue-2 : goal.overflow_add-queue-2
-overflow_add-queue-2 c =
-    let of = queue_of c.args.counts c.args.table.now c.args.messages.now in
+pub overflow_add-counts-2 : goal.overflow_add-counts-2
+overflow_add-counts-2 c =
+    let of = queue_of c.args.counts.now c.args.table.now c.args.messages.now in
     let is_sound : unsound of ≡ false = sym (c.unsound.ensures of.messages) ∙ c.if-unsound.false in
     let ok : Sound (as_tsns of) = sound of is_sound in
     let size_fits : c.args.size < 65536 = search rules in
@@ -69,7 +69,7 @@ overflow_add-queue-2 c =
 pub returns : goal.returns
 unfolding pushed_no_check stored
 returns c =
-    let of = queue_of c.args.counts c.args.table.now c.args.messages.now in
+    let of = queue_of c.args.counts.now c.args.table.now c.args.messages.now in
     let is_sound : unsound of ≡ false = sym (c.unsound.ensures of.messages) ∙ c.if-unsound.false in
     let size_fits : c.args.size < 65536 = search rules in
     rw (
@@ -78,7 +78,7 @@ returns c =
       sym c.has_tsn.ensures ∙ c.if-has_tsn.false,
       lt-leb _ _ c.if-count-ge-TSNS.false,
       c.put_row.ensures,
-      c.put_number.ensures,
+      c.put_one.ensures,
       c.place_tsn-at.ensures,
       ap (λ (x : Row). short_length x.head) c.row_of-row.ensures,
       row-size c.args.chunk c.args.size size_fits,

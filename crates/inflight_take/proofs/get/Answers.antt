@@ -50,8 +50,8 @@ bounds-messages-at c =
     let ok : Sound (as_tsns of) = sound of is_sound in
     omega (arith, c.if-count-at.false, ok.few)
 
-pub row_at-requires : goal.row_at-requires
-row_at-requires c =
+pub row_at-row-requires : goal.row_at-row-requires
+row_at-row-requires c =
     let of = queue_of c.args.counts c.args.table.now c.args.messages.now in
     let is_sound : unsound of ≡ false = sym (c.unsound.ensures of.messages) ∙ c.if-unsound.false in
     let ok : Sound (as_tsns of) = sound of is_sound in
@@ -68,4 +68,4 @@ returns c =
     let long : length of.rows ≡ tsns_most = rows_long tsns_most c.args.table.now (omega arith) in
     let at = c.find_tsn-at.result in
     ap (says none) c.sent_of.ensures
-    ∙ got-one of is_sound long c.args.tsn at c.find_tsn-at.ensures (omega (arith, c.if-count-at.false)) c.row_at.result c.row_at.ensures (get_or of.messages at 0) refl
+    ∙ got-one of is_sound long c.args.tsn at c.find_tsn-at.ensures (omega (arith, c.if-count-at.false)) c.row_at-row.result c.row_at-row.ensures (get_or of.messages at 0) refl

@@ -17,7 +17,7 @@ returns-then-unsound c = rw (sym (c.unsound.ensures c.args.messages.now) ∙ c.i
 
 pub keep_numbers-requires : goal.keep_numbers-requires
 keep_numbers-requires c =
-    let of = queue_of c.args.counts c.args.table.now c.args.messages.now in
+    let of = queue_of c.args.counts.now c.args.table.now c.args.messages.now in
     let is_sound : unsound of ≡ false = sym (c.unsound.ensures of.messages) ∙ c.if-unsound.false in
     let ok : Sound (as_tsns of) = sound of is_sound in
     record {
@@ -28,7 +28,7 @@ keep_numbers-requires c =
 
 pub keep_after-left-requires : goal.keep_after-left-requires
 keep_after-left-requires c =
-    let of = queue_of c.args.counts c.args.table.now c.args.messages.now in
+    let of = queue_of c.args.counts.now c.args.table.now c.args.messages.now in
     let is_sound : unsound of ≡ false = sym (c.unsound.ensures of.messages) ∙ c.if-unsound.false in
     let ok : Sound (as_tsns of) = sound of is_sound in
     record {
@@ -36,9 +36,9 @@ keep_after-left-requires c =
       n_le_tsns_most = ok.few;
     }
 
-pub sum_short-requires : goal.sum_short-requires
-sum_short-requires c =
-    let of = queue_of c.args.counts c.args.table.now c.args.messages.now in
+pub sum_short-counts-requires : goal.sum_short-counts-requires
+sum_short-counts-requires c =
+    let of = queue_of c.args.counts.now c.args.table.now c.args.messages.now in
     let is_sound : unsound of ≡ false = sym (c.unsound.ensures of.messages) ∙ c.if-unsound.false in
     let long : length of.rows ≡ tsns_most = rows_long tsns_most c.args.table.now (omega arith) in
     record {
@@ -49,7 +49,7 @@ sum_short-requires c =
 
 pub returns : goal.returns
 returns c =
-    let of = queue_of c.args.counts c.args.table.now c.args.messages.now in
+    let of = queue_of c.args.counts.now c.args.table.now c.args.messages.now in
     let is_sound : unsound of ≡ false = sym (c.unsound.ensures of.messages) ∙ c.if-unsound.false in
     let long : length of.rows ≡ tsns_most = rows_long tsns_most c.args.table.now (omega arith) in
-    dropped-all of is_sound long c.args.tsn c.keep_after-left.result c.keep_after-left.ensures.value c.keep_after-left.ensures.table_after c.keep_numbers.ensures c.sum_short.result c.sum_short.ensures
+    dropped-all of is_sound long c.args.tsn c.keep_after-left.result c.keep_after-left.ensures.value c.keep_after-left.ensures.table_after c.keep_numbers.ensures c.sum_short-counts.result c.sum_short-counts.ensures

@@ -1,30 +1,14 @@
--- `loose_fragments::find_after` meets its contract: the rows ahead are those passed and those ahead in the rest.
-use mathlib.Core.Path.{refl, sym, ◌∙◌}
-use Prim.Native.Nat.{◌+◌}
-use native.Mathlib.Omega.{arith}
-use Rattle.table.specs.Rows.{rows_of}
-use Rattle.table.proofs.Columns.{rows_long}
-use Rattle.table.proofs.Scans.{sought_none, sought_here, sought_turn, sought_all, tsn-at}
-use Rattle.fragments.specs.Frag.{of_row, tsn_after}
+-- `loose_fragments::find_after` meets its contract: the words passed are the TSNs of the rows.
+use Rattle.std.proofs.Common.{rules}
+use Rattle.std.proofs.lemmas.Iterator.{YieldsList-from_slice}
+use Rattle.std.proofs.lemmas.Iterator.Search.{position_from_yields_List}
+use borrow.Author.Tests.{tests}
+use Rattle.serial_model.specs.Serial.{before}
+use Rattle.table.proofs.Words.{those_long, ahead-found}
 use Rattle.loose_fragments.proofs.find_after.Goals as goal
 
-pub loop-i-init : goal.loop-i-init
-loop-i-init c =
-    let a = c.args in
-    let e = rows_long a.size a.table.now c.requires.table_len in
-    (refl, sought_none (of_row (tsn_after a.tsn)) (rows_of a.size a.table.now) a.from a.n (omega arith))
-
-pub returns-then-sna32lt : goal.returns-then-sna32lt
-returns-then-sna32lt c =
-    let a = c.args in
-    let w = tsn-at a.size a.table.now c.requires.table_len (a.from + c.loop-i.i) (omega arith) {q = a.size + a.from + c.loop-i.i} (omega arith) in
-    sought_here c.loop-i.invariant.1 (omega arith) (rw (← w) (sym c.sna32lt.ensures ∙ c.if-sna32lt.true))
-
-pub loop-i-preserved : goal.loop-i-preserved
-loop-i-preserved c =
-    let a = c.args in
-    let w = tsn-at a.size a.table.now c.requires.table_len (a.from + c.loop-i.i) (omega arith) {q = a.size + a.from + c.loop-i.i} (omega arith) in
-    (refl, sought_turn c.loop-i.invariant.1 (omega arith) (rw (← w) (sym c.sna32lt.ensures ∙ c.if-sna32lt.false)))
-
 pub returns : goal.returns
-returns c = sought_all c.loop-i.invariant.1 c.loop-i-test.false
+returns c =
+    let a = c.args in
+    let f = position_from_yields_List (λ word. before 32 a.tsn word) _ _ _ c.position.ensures.ran (YieldsList-from_slice c.tsns-tsns.result.now cc) (λ x b q k. search (rules, tests)) in
+    rw (c.unwrap_or.ensures, f, c.tsns-tsns.ensures) (ahead-found (λ word. before 32 a.tsn word) (λ r. r.tsn) _ a.n (those_long a.size a.table.now c.requires.table_len a.from a.n c.requires.n_bound))

@@ -1,6 +1,6 @@
 -- `loose_fragments::run_down` meets its contract: after i turns the sum and the run from the wanted TSN down make up the whole run.
 use mathlib.Core.Bool.{Bool}
-use Prim.Native.Nat.{ℕ, ◌-◌, ◌/◌, ◌%◌}
+use Prim.Native.Nat.{ℕ, ◌/◌, ◌%◌}
 use lib.Dec.{eqb}
 use Rattle.loose_fragments.specs.Loose.{previous}
 use Rattle.loose_fragments.proofs.Run.{Run}
@@ -10,8 +10,5 @@ use Rattle.loose_fragments.proofs.run_down.Given as goal
 abbrev pub last : ℕ → Bool
 last flags = eqb (flags / 2 % 2) 1
 
-abbrev pub invariant-loop-i : goal.invariant-loop-i
-invariant-loop-i l = Run previous last l.size l.table l.from l.n l.tsn l.i l.sum l.want
-
-abbrev pub decreases-loop-i : goal.decreases-loop-i
-decreases-loop-i l = l.n - l.i
+abbrev pub invariant-loop : goal.invariant-loop
+invariant-loop l = Run previous last l.size l.table l.from l.n l.tsn l.counter l.sum l.want

@@ -1,6 +1,5 @@
 -- `loose_fragments::run_up` meets its contract: after i turns the sum and the run from the wanted TSN on make up the whole run.
 use mathlib.Core.Path.{refl}
-use Prim.Native.Nat.{◌-◌}
 use native.Mathlib.Omega.{arith}
 use borrow.Author.Tests.{eq-eqb, ne_eqb}
 use Rattle.serial_model.specs.Serial.{next}
@@ -8,19 +7,19 @@ use Rattle.loose_fragments.proofs.Run.{run_none, run_missed, run-last, run_on, r
 use Rattle.loose_fragments.proofs.run_up.Invariants.{last}
 use Rattle.loose_fragments.proofs.run_up.Goals as goal
 
-pub loop-i-init : goal.loop-i-init
-loop-i-init c =
+pub loop-init : goal.loop-init
+loop-init c =
     let a = c.args in
     run_none a.size a.table.now a.from a.n c.requires.table_len c.requires.n_bound (next 32) last a.tsn c.tsn_next-want.result c.tsn_next-want.ensures
 
 pub returns-then-n-at : goal.returns-then-n-at
-returns-then-n-at c = run_missed c.loop-i.invariant (omega arith) c.find_tsn-at.ensures (omega arith)
+returns-then-n-at c = run_missed c.loop.invariant (omega arith) c.find_tsn-at.ensures (omega arith)
 
 pub returns-then-head-eq1 : goal.returns-then-head-eq1
-returns-then-head-eq1 c = run-last c.loop-i.invariant (omega arith) c.find_tsn-at.ensures (omega arith) refl c.long_length-sum.ensures (eq-eqb _ _ c.if-head-eq1.true)
+returns-then-head-eq1 c = run-last c.loop.invariant (omega arith) c.find_tsn-at.ensures (omega arith) refl c.long_length-sum.ensures (eq-eqb _ _ c.if-head-eq1.true)
 
-pub loop-i-preserved : goal.loop-i-preserved
-loop-i-preserved c = rw c.tsn_next-want-in-loop-i.ensures (run_on c.loop-i.invariant (omega arith) c.find_tsn-at.ensures (omega arith) refl c.long_length-sum.ensures (ne_eqb _ _ c.if-head-eq1.false))
+pub loop-preserved : goal.loop-preserved
+loop-preserved c = rw c.tsn_next-want-in-loop.ensures (run_on c.loop.invariant (omega arith) c.find_tsn-at.ensures (omega arith) refl c.long_length-sum.ensures (ne_eqb _ _ c.if-head-eq1.false))
 
 pub returns : goal.returns
-returns c = run-all c.loop-i.invariant c.loop-i-test.false
+returns c = run-all c.loop.invariant c.loop-test.false

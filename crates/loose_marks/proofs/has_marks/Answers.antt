@@ -1,25 +1,15 @@
--- `loose_marks::has_marks` meets its contract: after i turns it is whether one of the first i rows is B, and whether one is E.
-use mathlib.Core.Path.{◌≡◌, refl}
-use Prim.Native.Nat.{◌+◌}
-use native.Mathlib.Omega.{arith}
-use Rattle.table.specs.Rows.{rows_of, some}
-use Rattle.table.proofs.Columns.{rows_long}
-use Rattle.table.proofs.Scans.{rows_more, some-snoc, head_at}
+-- `loose_marks::has_marks` meets its contract: the words passed are the heads of the rows.
+use Rattle.std.proofs.Common.{◌∙◌, ◌/◌, ◌%◌, take, drop, nat_eq}
+use Rattle.std.proofs.lemmas.List.{take_all}
+use Rattle.table.specs.Rows.{rows_of}
+use Rattle.table.proofs.Words.{some-words}
 use Rattle.loose_marks.proofs.has_marks.Goals as goal
 
-pub loop-i-init : goal.loop-i-init
-unfolding some
-loop-i-init c = (omega arith, refl, refl)
-
-pub loop-i-preserved : goal.loop-i-preserved
-loop-i-preserved c =
-    let a = c.args in
-    let rs = rows_of a.size a.table.now in
-    let i = c.loop-i.i in
-    let e = rows_long a.size a.table.now c.requires.table_len in
-    let more = rows_more rs a.from i (omega arith) in
-    let h = head_at a.size a.table.now c.requires.table_len (a.from + i) (omega arith) refl in
-    (omega arith, rw (more, some-snoc, ← c.loop-i.invariant.1, h), rw (more, some-snoc, ← c.loop-i.invariant.2, h))
-
 pub returns : goal.returns
-returns c = let e : c.loop-i.i ≡ c.args.n = omega arith in rw (rw e at c.loop-i.invariant.1, rw e at c.loop-i.invariant.2)
+returns c =
+    let a = c.args in
+    let rs = take a.n (drop a.from (rows_of a.size a.table.now)) in
+    let i = c.loop-head.head-index in
+    let begun = rw (take_all i _ c.loop-head-test.false, c.heads-head-items.ensures) at c.loop-head.invariant.0 ∙ some-words (λ word. nat_eq (word / 16777216 / 2 % 2) 1) (λ r. r.head) rs in
+    let ended = rw (take_all i _ c.loop-head-test.false, c.heads-head-items.ensures) at c.loop-head.invariant.1 ∙ some-words (λ word. nat_eq (word / 16777216 % 2) 1) (λ r. r.head) rs in
+    rw (begun, ended)

@@ -1,15 +1,10 @@
 -- `packet::sum` meets its contract: bytes behind others go through the register that those leave.
-use mathlib.Core.Path.{sym, ap, ◌∙◌}
-use native.Mathlib.Omega.{arith}
+use mathlib.Core.Path.{ap, ◌∙◌}
 use lib.ListN.{take, drop}
-use lib.Seq.{length-take-le}
 use Rattle.crc32c.specs.Crc.{through, little_endian}
 use Rattle.wire.proofs.Writing.{left-whole}
 use Rattle.packet.proofs.Sums.{in_parts}
 use Rattle.packet.proofs.sum.Goals as goal
-
-pub slice_bounds-update-end : goal.slice_bounds-update-end
-slice_bounds-update-end c = sym (length-take-le 8 c.args.raw.now (omega (arith, c.requires)))
 
 pub returns : goal.returns
 unfolding little_endian

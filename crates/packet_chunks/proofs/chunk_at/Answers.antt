@@ -3,6 +3,7 @@ use mathlib.Core.Path.{◌≡◌}
 use Prim.Native.Nat.{◌+◌, ◌≤◌}
 use native.Mathlib.Omega.{arith}
 use lib.ListN.{length, drop, length-drop}
+use Rattle.std.proofs.lemmas.Result.{err_from_is_err_and}
 use Rattle.wire_model.specs.Refusal.{none, says}
 use Rattle.wire.proofs.Writing.{left-whole}
 use Rattle.packet_parts.specs.Fronts.{rounded, size_read}
@@ -21,24 +22,25 @@ returns-then-packet-at-2 c = let a = c.args in step_end a.packet.now a.at c.if-a
 pub overflow_add-next : goal.overflow_add-next
 unfolding rounded
 overflow_add-next c =
-    let seen : (let n = c.in-Bytes.n in let a = c.args in (says none n ≡ size_read (drop a.at a.packet.now)) × (4 ≤ n) × (a.at + n ≤ length a.packet.now)) = let a = c.args in let told = rw (c.in-Bytes.is, left-whole a.packet.now a.at) at c.chunk_size-size.ensures.result_value in let room = rw (c.in-Bytes.is, left-whole a.packet.now a.at, length-drop) at c.chunk_size-size.ensures.size_room in (told, room.0, omega (arith, c.if-packet-at-2.false, c.if-packet-at.false)) in
+    let seen : (let n = c.in_ok-size.size in let a = c.args in (says none n ≡ size_read (drop a.at a.packet.now)) × (4 ≤ n) × (a.at + n ≤ length a.packet.now)) = let a = c.args in let told = rw (left-whole a.packet.now a.at) at c.in_ok-size.ensures.result_value in let room = rw (left-whole a.packet.now a.at, length-drop) at c.in_ok-size.ensures.size_room in (told, room.0, omega (arith, c.if-packet-at-2.false, c.if-packet-at.false)) in
     let s = seen in
     omega (arith, c.padded_size.ensures, s.2)
 
 pub returns-then-packet-next : goal.returns-then-packet-next
 returns-then-packet-next c =
-    let seen : (let n = c.in-Bytes.n in let a = c.args in (says none n ≡ size_read (drop a.at a.packet.now)) × (4 ≤ n) × (a.at + n ≤ length a.packet.now)) = let a = c.args in let told = rw (c.in-Bytes.is, left-whole a.packet.now a.at) at c.chunk_size-size.ensures.result_value in let room = rw (c.in-Bytes.is, left-whole a.packet.now a.at, length-drop) at c.chunk_size-size.ensures.size_room in (told, room.0, omega (arith, c.if-packet-at-2.false, c.if-packet-at.false)) in
+    let seen : (let n = c.in_ok-size.size in let a = c.args in (says none n ≡ size_read (drop a.at a.packet.now)) × (4 ≤ n) × (a.at + n ≤ length a.packet.now)) = let a = c.args in let told = rw (left-whole a.packet.now a.at) at c.in_ok-size.ensures.result_value in let room = rw (left-whole a.packet.now a.at, length-drop) at c.in_ok-size.ensures.size_room in (told, room.0, omega (arith, c.if-packet-at-2.false, c.if-packet-at.false)) in
     let a = c.args in
     step-over a.packet.now a.at c.if-at-lt12.false (omega (arith, c.if-packet-at-2.false)) seen.0 c.padded_size.ensures c.if-packet-next.true
 
-pub returns-in-Refused : goal.returns-in-Refused
-returns-in-Refused c =
+pub returns-in_err-size : goal.returns-in_err-size
+returns-in_err-size c =
     let a = c.args in
-    step-refused a.packet.now a.at c.if-at-lt12.false (omega (arith, c.if-packet-at-2.false))
-    (rw (c.in-Refused.is, left-whole a.packet.now a.at) at c.chunk_size-size.ensures.result_value)
+    let e = err_from_is_err_and c.from_residual.result c.from_residual.ensures.1 in
+    rw (e.1, e.2)
+    (step-refused a.packet.now a.at c.if-at-lt12.false (omega (arith, c.if-packet-at-2.false)) (rw (left-whole a.packet.now a.at) at c.in_err-size.ensures.result_value))
 
-pub returns-else-packet-next : goal.returns-else-packet-next
-returns-else-packet-next c =
-    let seen : (let n = c.in-Bytes.n in let a = c.args in (says none n ≡ size_read (drop a.at a.packet.now)) × (4 ≤ n) × (a.at + n ≤ length a.packet.now)) = let a = c.args in let told = rw (c.in-Bytes.is, left-whole a.packet.now a.at) at c.chunk_size-size.ensures.result_value in let room = rw (c.in-Bytes.is, left-whole a.packet.now a.at, length-drop) at c.chunk_size-size.ensures.size_room in (told, room.0, omega (arith, c.if-packet-at-2.false, c.if-packet-at.false)) in
+pub returns : goal.returns
+returns c =
+    let seen : (let n = c.in_ok-size.size in let a = c.args in (says none n ≡ size_read (drop a.at a.packet.now)) × (4 ≤ n) × (a.at + n ≤ length a.packet.now)) = let a = c.args in let told = rw (left-whole a.packet.now a.at) at c.in_ok-size.ensures.result_value in let room = rw (left-whole a.packet.now a.at, length-drop) at c.in_ok-size.ensures.size_room in (told, room.0, omega (arith, c.if-packet-at-2.false, c.if-packet-at.false)) in
     let a = c.args in
     step_within a.packet.now a.at c.if-at-lt12.false (omega (arith, c.if-packet-at-2.false)) seen.0 c.padded_size.ensures c.if-packet-next.false

@@ -1,10 +1,9 @@
 -- `packet_marshal::marshal_to` meets its contract: the measure decides what is refused; the chunks go behind the header, and the sum over the zeros in its field.
 use mathlib.Core.Path.{◌≡◌, sym, ap, ◌∙◌}
 use Prim.Native.Nat.{ℕ, ◌+◌, ◌*◌, ◌≤◌}
-use borrow.Author.Rules.{rules}
 use native.Mathlib.Omega.{arith}
 use lib.ListN.{length, length-take, length-drop}
-use lib.Seq.{length-take-le}
+use Rattle.std.proofs.lemmas.Result.{err_from_is_err_and}
 use Rattle.wire_model.specs.Refusal.{none, first}
 use Rattle.wire.proofs.Writing.{write_short, write_done, behind}
 use Rattle.packet_body.specs.Lent.{lent_checks, body}
@@ -14,44 +13,37 @@ use Rattle.packet_marshal.specs.Written.{packet_written}
 use Rattle.packet_marshal.proofs.Packets.{common-length, packet-length, sum_is, sum-put, packet-refused}
 use Rattle.packet_marshal.proofs.marshal_to.Goals as goal
 
-pub overflow_add-size : goal.overflow_add-size
-overflow_add-size c =
-    let told : (let n = c.in-Bytes.n in let lent = c.args.chunks.now in (first (lent_checks lent) ≡ none) × (n ≡ length (body lent)) × (4 * n ≤ 7 * length lent)) = let t = measured c.args.chunks.now (rw c.in-Bytes.is at c.measure-measured.ensures.result_value) in (t.0, t.1, rw c.in-Bytes.is at c.measure-measured.ensures.body_room) in
-    omega (arith, told.2)
-
 pub returns-then-out-size : goal.returns-then-out-size
 unfolding packet_written
 returns-then-out-size c =
-    let told : (let n = c.in-Bytes.n in let lent = c.args.chunks.now in (first (lent_checks lent) ≡ none) × (n ≡ length (body lent)) × (4 * n ≤ 7 * length lent)) = let t = measured c.args.chunks.now (rw c.in-Bytes.is at c.measure-measured.ensures.result_value) in (t.0, t.1, rw c.in-Bytes.is at c.measure-measured.ensures.body_room) in
-    let size : (let a = c.args in length (packet (common a.source_port a.destination_port a.verification_tag) (body a.chunks.now)) ≡ 12 + c.in-Bytes.n) = let a = c.args in packet-length (common a.source_port a.destination_port a.verification_tag) (body a.chunks.now) ∙ ap (λ (k : ℕ). 12 + k) (sym told.1) in
+    let told : (let n = c.in_ok-measured.measured in let lent = c.args.chunks.now in (first (lent_checks lent) ≡ none) × (n ≡ length (body lent)) × (4 * n ≤ 7 * length lent)) = let t = measured c.args.chunks.now c.in_ok-measured.ensures.result_value in (t.0, t.1, c.in_ok-measured.ensures.body_room) in
+    let size : (let a = c.args in length (packet (common a.source_port a.destination_port a.verification_tag) (body a.chunks.now)) ≡ 12 + c.in_ok-measured.measured) = let a = c.args in packet-length (common a.source_port a.destination_port a.verification_tag) (body a.chunks.now) ∙ ap (λ (k : ℕ). 12 + k) (sym told.1) in
     let a = c.args in
     let lent = a.chunks.now in
     write_short (lent_checks lent) (packet (common a.source_port a.destination_port a.verification_tag) (body lent)) a.out.now told.0 size c.if-out-size.true
 
 pub put_body-requires : goal.put_body-requires
 put_body-requires c =
-    let told : (let n = c.in-Bytes.n in let lent = c.args.chunks.now in (first (lent_checks lent) ≡ none) × (n ≡ length (body lent)) × (4 * n ≤ 7 * length lent)) = let t = measured c.args.chunks.now (rw c.in-Bytes.is at c.measure-measured.ensures.result_value) in (t.0, t.1, rw c.in-Bytes.is at c.measure-measured.ensures.body_room) in
+    let told : (let n = c.in_ok-measured.measured in let lent = c.args.chunks.now in (first (lent_checks lent) ≡ none) × (n ≡ length (body lent)) × (4 * n ≤ 7 * length lent)) = let t = measured c.args.chunks.now c.in_ok-measured.ensures.result_value in (t.0, t.1, c.in_ok-measured.ensures.body_room) in
     let t = told in
     record {
       chunks_value = t.0;
       chunks_in_bounds = simp (length-take, length-drop) (omega (arith, t.1, c.if-out-size.false));
     }
 
-pub slice_bounds-crc32c-end-in-Bytes : goal.slice_bounds-crc32c-end-in-Bytes
-slice_bounds-crc32c-end-in-Bytes c = sym (length-take-le _ _ (search rules))
-
-pub returns-in-Refused : goal.returns-in-Refused
-returns-in-Refused c =
+pub returns-in_err-measured : goal.returns-in_err-measured
+returns-in_err-measured c =
     let a = c.args in
     let lent = a.chunks.now in
-    packet-refused (common a.source_port a.destination_port a.verification_tag) lent a.out.now
-    (measured_refused lent (rw c.in-Refused.is at c.measure-measured.ensures.result_value))
+    let e = err_from_is_err_and c.from_residual.result c.from_residual.ensures.1 in
+    rw (e.1, e.2)
+    (packet-refused (common a.source_port a.destination_port a.verification_tag) lent a.out.now (measured_refused lent c.in_err-measured.ensures.result_value))
 
-pub returns-else-out-size : goal.returns-else-out-size
+pub returns : goal.returns
 unfolding packet_written
-returns-else-out-size c =
-    let told : (let n = c.in-Bytes.n in let lent = c.args.chunks.now in (first (lent_checks lent) ≡ none) × (n ≡ length (body lent)) × (4 * n ≤ 7 * length lent)) = let t = measured c.args.chunks.now (rw c.in-Bytes.is at c.measure-measured.ensures.result_value) in (t.0, t.1, rw c.in-Bytes.is at c.measure-measured.ensures.body_room) in
-    let size : (let a = c.args in length (packet (common a.source_port a.destination_port a.verification_tag) (body a.chunks.now)) ≡ 12 + c.in-Bytes.n) = let a = c.args in packet-length (common a.source_port a.destination_port a.verification_tag) (body a.chunks.now) ∙ ap (λ (k : ℕ). 12 + k) (sym told.1) in
+returns c =
+    let told : (let n = c.in_ok-measured.measured in let lent = c.args.chunks.now in (first (lent_checks lent) ≡ none) × (n ≡ length (body lent)) × (4 * n ≤ 7 * length lent)) = let t = measured c.args.chunks.now c.in_ok-measured.ensures.result_value in (t.0, t.1, c.in_ok-measured.ensures.body_room) in
+    let size : (let a = c.args in length (packet (common a.source_port a.destination_port a.verification_tag) (body a.chunks.now)) ≡ 12 + c.in_ok-measured.measured) = let a = c.args in packet-length (common a.source_port a.destination_port a.verification_tag) (body a.chunks.now) ∙ ap (λ (k : ℕ). 12 + k) (sym told.1) in
     let a = c.args in
     let lent = a.chunks.now in
     let out = a.out.now in

@@ -5,20 +5,20 @@ use Rattle.packet_chunks.specs.Chunks.{Spot}
 use Rattle.packet_places.specs.Walk.{spot_next, place_after}
 use Rattle.packet_places.proofs.place_after.Goals as goal
 
-pub returns-in-Refused : goal.returns-in-Refused
+pub returns-in-Ok-Some : goal.returns-in-Ok-Some
 unfolding place_after
-returns-in-Refused c =
+returns-in-Ok-Some c =
     let at = c.args.at in
-    ap (λ (t : Told Spot). spot_next at t.values) (rw c.in-Refused.is at c.chunk_at-step.ensures)
+    ap (λ (t : Told Spot). spot_next at t.values) (rw c.in-Ok-Some.field-0-is at c.in-Ok-Some.ensures)
 
-pub returns-in-End : goal.returns-in-End
+pub returns-in-Ok-None : goal.returns-in-Ok-None
 unfolding place_after
-returns-in-End c =
+returns-in-Ok-None c =
     let at = c.args.at in
-    ap (λ (t : Told Spot). spot_next at t.values) (rw c.in-End.is at c.chunk_at-step.ensures)
+    ap (λ (t : Told Spot). spot_next at t.values) (rw c.in-Ok-None.field-0-is at c.in-Ok-None.ensures)
 
-pub returns-in-Chunk : goal.returns-in-Chunk
+pub returns-in-Err : goal.returns-in-Err
 unfolding place_after
-returns-in-Chunk c =
+returns-in-Err c =
     let at = c.args.at in
-    ap (λ (t : Told Spot). spot_next at t.values) (rw c.in-Chunk.is at c.chunk_at-step.ensures)
+    ap (λ (t : Told Spot). spot_next at t.values) c.in-Err.ensures

@@ -9,17 +9,13 @@ pub returns-then-unsound : goal.returns-then-unsound
 unfolding gap_report
 returns-then-unsound c = rw (sym c.unsound.ensures ∙ c.if-unsound.true)
 
-pub report-told-requires : goal.report-told-requires
-report-told-requires c =
+pub report-requires : goal.report-requires
+report-requires c =
     record {
       table_len = omega arith;
       n_le_size = (sound _ (sym c.unsound.ensures ∙ c.if-unsound.false)).few;
     }
 
-pub returns-in-Count : goal.returns-in-Count
+pub returns : goal.returns
 unfolding gap_report
-returns-in-Count c = rw (sym c.unsound.ensures ∙ c.if-unsound.false, ← c.report-told.ensures, c.in-Count.is)
-
-pub returns-in-Short : goal.returns-in-Short
-unfolding gap_report
-returns-in-Short c = rw (sym c.unsound.ensures ∙ c.if-unsound.false, ← c.report-told.ensures, c.in-Short.is)
+returns c = rw (sym c.unsound.ensures ∙ c.if-unsound.false, ← c.report.ensures)

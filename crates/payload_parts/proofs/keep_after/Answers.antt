@@ -8,6 +8,7 @@ use Rattle.payload_model.specs.Limits.{tsns_most}
 use Rattle.payload_model.specs.Queue.{stays_after}
 use Rattle.payload_model.proofs.Laws.{keep_none, keep_stays, keep_goes}
 use Rattle.payload_parts.proofs.keep_after.Goals as goal
+use Rattle.payload_parts.proofs.keep_after.Goals.{then-not-sna32lte, else-not-sna32lte}
 
 pub loop-i-init : goal.loop-i-init
 loop-i-init c =
@@ -15,13 +16,16 @@ loop-i-init c =
     let e = rows_long tsns_most a.table.now c.requires.table_len in
     (c.requires.table_len, keep_none (stays_after a.tsn) (rows_of tsns_most a.table.now) a.n (omega arith))
 
-pub loop-i-preserved-then-not-sna32lte : goal.loop-i-preserved-then-not-sna32lte
-loop-i-preserved-then-not-sna32lte c =
-    (omega arith, rw (← c.set_row.ensures) at (keep_stays c.loop-i.invariant.1 (omega arith) c.row_at-row.result c.row_at-row.ensures (ap (λ b. not b) (sym c.sna32lte.ensures ∙ c.if-not-sna32lte.true))))
-
 pub loop-i-preserved : goal.loop-i-preserved
 loop-i-preserved c =
-    (c.loop-i.invariant.0, keep_goes c.loop-i.invariant.1 (omega arith) c.row_at-row.result c.row_at-row.ensures (ap (λ b. not b) (sym c.sna32lte.ensures ∙ c.if-not-sna32lte.false)))
+    elim c.if-not-sna32lte.branch [
+      | then-not-sna32lte w ↦
+          let kept = keep_stays c.loop-i.invariant.1 (omega arith) c.row_at-row.result c.row_at-row.ensures (ap (λ b. not b) (sym c.sna32lte.ensures ∙ w.if-not-sna32lte.true)) in
+          (omega arith, rw (w.left-is, w.table-is, w.set_row.ensures) kept)
+      | else-not-sna32lte w ↦
+          let kept = keep_goes c.loop-i.invariant.1 (omega arith) c.row_at-row.result c.row_at-row.ensures (ap (λ b. not b) (sym c.sna32lte.ensures ∙ w.if-not-sna32lte.false)) in
+          (omega arith, rw (w.left-is, w.table-is) kept)
+    ]
 
 pub returns : goal.returns
 returns c =

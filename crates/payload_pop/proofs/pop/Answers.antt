@@ -20,14 +20,14 @@ returns-then-unsound c = rw (sym c.unsound.ensures ∙ c.if-unsound.true)
 pub returns-then-count-eq0 : goal.returns-then-count-eq0
 unfolding popped
 returns-then-count-eq0 c =
-    let of = queue_of c.args.counts c.args.table.now in
+    let of = queue_of c.args.counts.now c.args.table.now in
     let p = has_tsn c.args.tsn in
     rw (sym c.unsound.ensures ∙ c.if-unsound.false, none_first p of.rows of.count c.if-count-eq0.true)
 
 pub returns-then-row-tsn : goal.returns-then-row-tsn
 unfolding popped
 returns-then-row-tsn c =
-    let of = queue_of c.args.counts c.args.table.now in
+    let of = queue_of c.args.counts.now c.args.table.now in
     let ok : Sound of = sound of (sym c.unsound.ensures ∙ c.if-unsound.false) in
     let long : length of.rows ≡ tsns_most = rows_long tsns_most c.args.table.now (omega arith) in
     let p = has_tsn c.args.tsn in
@@ -36,13 +36,13 @@ returns-then-row-tsn c =
 
 pub close_rows-requires : goal.close_rows-requires
 close_rows-requires c =
-    let of = queue_of c.args.counts c.args.table.now in
+    let of = queue_of c.args.counts.now c.args.table.now in
     let ok : Sound of = sound of (sym c.unsound.ensures ∙ c.if-unsound.false) in
     omega (arith, ok.few)
 
-pub overflow_sub-queue-2 : goal.overflow_sub-queue-2
-overflow_sub-queue-2 c =
-    let of = queue_of c.args.counts c.args.table.now in
+pub overflow_sub-counts-2 : goal.overflow_sub-counts-2
+overflow_sub-counts-2 c =
+    let of = queue_of c.args.counts.now c.args.table.now in
     let ok : Sound of = sound of (sym c.unsound.ensures ∙ c.if-unsound.false) in
     let long : length of.rows ≡ tsns_most = rows_long tsns_most c.args.table.now (omega arith) in
     rw c.row_at-row.ensures (first_small of ok long (omega (arith, c.if-count-eq0.false)))
@@ -50,7 +50,7 @@ overflow_sub-queue-2 c =
 pub returns : goal.returns
 unfolding popped
 returns c =
-    let of = queue_of c.args.counts c.args.table.now in
+    let of = queue_of c.args.counts.now c.args.table.now in
     let ok : Sound of = sound of (sym c.unsound.ensures ∙ c.if-unsound.false) in
     let long : length of.rows ≡ tsns_most = rows_long tsns_most c.args.table.now (omega arith) in
     let p = has_tsn c.args.tsn in

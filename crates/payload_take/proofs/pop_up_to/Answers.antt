@@ -14,13 +14,13 @@ returns-then-unsound c = rw (sym c.unsound.ensures ∙ c.if-unsound.true)
 
 pub keep_after-left-requires : goal.keep_after-left-requires
 keep_after-left-requires c =
-    let of = queue_of c.args.counts c.args.table.now in
+    let of = queue_of c.args.counts.now c.args.table.now in
     let ok : Sound of = sound of (sym c.unsound.ensures ∙ c.if-unsound.false) in
     omega (arith, ok.few)
 
-pub sum_short-requires : goal.sum_short-requires
-sum_short-requires c =
-    let of = queue_of c.args.counts c.args.table.now in
+pub sum_short-counts-requires : goal.sum_short-counts-requires
+sum_short-counts-requires c =
+    let of = queue_of c.args.counts.now c.args.table.now in
     let ok : Sound of = sound of (sym c.unsound.ensures ∙ c.if-unsound.false) in
     let long : length (held of) ≤ of.count = simp length-take (omega arith) in
     let within = kept_within (stays_after c.args.tsn) (held of) in
@@ -33,8 +33,8 @@ sum_short-requires c =
 pub returns : goal.returns
 unfolding popped_up_to
 returns c =
-    let of = queue_of c.args.counts c.args.table.now in
+    let of = queue_of c.args.counts.now c.args.table.now in
     let stay = kept (stays_after c.args.tsn) (held of) in
     let rows = c.keep_after-left.ensures.table_after in
-    let sum : c.sum_short.result ≡ total short_length stay = c.sum_short.ensures ∙ rw (rows, c.keep_after-left.ensures.value, front-back) in
+    let sum : c.sum_short-counts.result ≡ total short_length stay = c.sum_short-counts.ensures ∙ rw (rows, c.keep_after-left.ensures.value, front-back) in
     rw (sym c.unsound.ensures ∙ c.if-unsound.false, sum, rows, c.keep_after-left.ensures.value)

@@ -10,7 +10,7 @@ use Rattle.reassembly_state.specs.Limits.{frags_most}
 use Rattle.reassembly_state.specs.State.{State, state_of, count}
 use Rattle.reassembly_state.specs.Rows.{first_ordered, set_at, set_run}
 use Rattle.reassembly_state.proofs.Laws.{sound}
-use Rattle.reassembly_ask.proofs.Sets.{ahead_fits, run_fits, set_found, asks_large, asks_old, asks_again, asks_crowded, asks_kept, told_so}
+use Rattle.reassembly_ask.proofs.Sets.{ahead_fits, run_fits, set_found, asks_large, asks_old, asks_again, asks_crowded, asks_kept}
 use Rattle.reassembly_ask.proofs.ask.Goals as goal
 
 pub overflow_add-from : goal.overflow_add-from
@@ -82,8 +82,7 @@ returns-then-too_large c =
     let at = first_ordered (of []) + c.find_ssn-ahead.result in
     let few : count c.args.queue ≤ frags_most = c.requires.queue_bound in
     let set : (pool : List ℕ) → (at ≡ set_at (of pool) c.args.chunk.stream_sequence_number) × (c.pass_ssn-run.result ≡ set_run (of pool) c.args.chunk.stream_sequence_number) = λ pool. set_found (of pool) few (full pool) c.args.chunk.stream_sequence_number c.find_ssn-ahead.ensures c.pass_ssn-run.ensures in
-    λ pool u. told_so c.answered.ensures
-    (asks_large (of pool) (sound (of pool) u) (full pool) c.args.chunk small c.args.more c.args.room (set pool).0 (set pool).1 (sym c.too_large.ensures ∙ c.if-too_large.true))
+    λ pool u. asks_large (of pool) (sound (of pool) u) (full pool) c.args.chunk small c.args.more c.args.room (set pool).0 (set pool).1 (sym c.too_large.ensures ∙ c.if-too_large.true)
 
 pub returns-then-sna16lt : goal.returns-then-sna16lt
 returns-then-sna16lt c =
@@ -94,9 +93,8 @@ returns-then-sna16lt c =
     let at = first_ordered (of []) + c.find_ssn-ahead.result in
     let few : count c.args.queue ≤ frags_most = c.requires.queue_bound in
     let set : (pool : List ℕ) → (at ≡ set_at (of pool) c.args.chunk.stream_sequence_number) × (c.pass_ssn-run.result ≡ set_run (of pool) c.args.chunk.stream_sequence_number) = λ pool. set_found (of pool) few (full pool) c.args.chunk.stream_sequence_number c.find_ssn-ahead.ensures c.pass_ssn-run.ensures in
-    λ pool u. told_so c.answered-then-sna16lt.ensures
-    (asks_old (of pool) (sound (of pool) u) (full pool) c.args.chunk small c.args.more c.args.room (set pool).0 (set pool).1 (sym c.too_large.ensures ∙ c.if-too_large.false)
-    (sym c.sna16lt.ensures ∙ c.if-sna16lt.true))
+    λ pool u. asks_old (of pool) (sound (of pool) u) (full pool) c.args.chunk small c.args.more c.args.room (set pool).0 (set pool).1 (sym c.too_large.ensures ∙ c.if-too_large.false)
+    (sym c.sna16lt.ensures ∙ c.if-sna16lt.true)
 
 pub has_tsn-requires : goal.has_tsn-requires
 has_tsn-requires c =
@@ -121,9 +119,8 @@ returns-then-has_tsn c =
     let at = first_ordered (of []) + c.find_ssn-ahead.result in
     let few : count c.args.queue ≤ frags_most = c.requires.queue_bound in
     let set : (pool : List ℕ) → (at ≡ set_at (of pool) c.args.chunk.stream_sequence_number) × (c.pass_ssn-run.result ≡ set_run (of pool) c.args.chunk.stream_sequence_number) = λ pool. set_found (of pool) few (full pool) c.args.chunk.stream_sequence_number c.find_ssn-ahead.ensures c.pass_ssn-run.ensures in
-    λ pool u. told_so c.answered-then-has_tsn.ensures
-    (asks_again (of pool) (sound (of pool) u) (full pool) c.args.chunk small c.args.more c.args.room (set pool).0 (set pool).1 (sym c.too_large.ensures ∙ c.if-too_large.false)
-    (sym c.sna16lt.ensures ∙ c.if-sna16lt.false) (sym c.has_tsn.ensures ∙ c.if-has_tsn.true))
+    λ pool u. asks_again (of pool) (sound (of pool) u) (full pool) c.args.chunk small c.args.more c.args.room (set pool).0 (set pool).1 (sym c.too_large.ensures ∙ c.if-too_large.false)
+    (sym c.sna16lt.ensures ∙ c.if-sna16lt.false) (sym c.has_tsn.ensures ∙ c.if-has_tsn.true)
 
 pub returns-then-not-room : goal.returns-then-not-room
 returns-then-not-room c =
@@ -134,9 +131,8 @@ returns-then-not-room c =
     let at = first_ordered (of []) + c.find_ssn-ahead.result in
     let few : count c.args.queue ≤ frags_most = c.requires.queue_bound in
     let set : (pool : List ℕ) → (at ≡ set_at (of pool) c.args.chunk.stream_sequence_number) × (c.pass_ssn-run.result ≡ set_run (of pool) c.args.chunk.stream_sequence_number) = λ pool. set_found (of pool) few (full pool) c.args.chunk.stream_sequence_number c.find_ssn-ahead.ensures c.pass_ssn-run.ensures in
-    λ pool u. told_so c.answered-then-not-room.ensures
-    (asks_crowded (of pool) (sound (of pool) u) (full pool) c.args.chunk small c.args.more c.args.room (set pool).0 (set pool).1 (sym c.too_large.ensures ∙ c.if-too_large.false)
-    (sym c.sna16lt.ensures ∙ c.if-sna16lt.false) (sym c.has_tsn.ensures ∙ c.if-has_tsn.false) c.if-not-room.true)
+    λ pool u. asks_crowded (of pool) (sound (of pool) u) (full pool) c.args.chunk small c.args.more c.args.room (set pool).0 (set pool).1 (sym c.too_large.ensures ∙ c.if-too_large.false)
+    (sym c.sna16lt.ensures ∙ c.if-sna16lt.false) (sym c.has_tsn.ensures ∙ c.if-has_tsn.false) c.if-not-room.true
 
 pub returns : goal.returns
 returns c =
@@ -147,6 +143,5 @@ returns c =
     let at = first_ordered (of []) + c.find_ssn-ahead.result in
     let few : count c.args.queue ≤ frags_most = c.requires.queue_bound in
     let set : (pool : List ℕ) → (at ≡ set_at (of pool) c.args.chunk.stream_sequence_number) × (c.pass_ssn-run.result ≡ set_run (of pool) c.args.chunk.stream_sequence_number) = λ pool. set_found (of pool) few (full pool) c.args.chunk.stream_sequence_number c.find_ssn-ahead.ensures c.pass_ssn-run.ensures in
-    λ pool u. told_so c.answered-2.ensures
-    (asks_kept (of pool) (sound (of pool) u) (full pool) c.args.chunk small c.args.more c.args.room (set pool).0 (set pool).1 (sym c.too_large.ensures ∙ c.if-too_large.false)
-    (sym c.sna16lt.ensures ∙ c.if-sna16lt.false) (sym c.has_tsn.ensures ∙ c.if-has_tsn.false) c.if-not-room.false)
+    λ pool u. asks_kept (of pool) (sound (of pool) u) (full pool) c.args.chunk small c.args.more c.args.room (set pool).0 (set pool).1 (sym c.too_large.ensures ∙ c.if-too_large.false)
+    (sym c.sna16lt.ensures ∙ c.if-sna16lt.false) (sym c.has_tsn.ensures ∙ c.if-has_tsn.false) c.if-not-room.false

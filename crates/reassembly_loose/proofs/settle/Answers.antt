@@ -12,7 +12,7 @@ use Rattle.reassembly_loose.proofs.settle.Goals as goal
 
 pub scan-whole-requires : goal.scan-whole-requires
 scan-whole-requires c =
-    let of = state_of c.args.queue c.args.table.now c.args.pool.now in
+    let of = state_of c.args.queue.now c.args.table.now c.args.pool.now in
     let ok : Sound of = sound of c.requires.pool_value in
     record {
       table_len = c.requires.table_len;
@@ -21,49 +21,49 @@ scan-whole-requires c =
 
 pub returns-then-start-end : goal.returns-then-start-end
 returns-then-start-end c =
-    let of = state_of c.args.queue c.args.table.now c.args.pool.now in
+    let of = state_of c.args.queue.now c.args.table.now c.args.pool.now in
     let ok : Sound of = sound of c.requires.pool_value in
     let full : length of.rows ≡ frags_most = rows_long frags_most c.args.table.now c.requires.table_len in
-    rw (c.unchanged.ensures.0, c.unchanged.ensures.1) (found_none of ok full c.scan-whole.ensures c.if-start-end.true)
+    found_none of ok full c.scan-whole.ensures c.if-start-end.true
 
 pub overflow_add-loose : goal.overflow_add-loose
 overflow_add-loose c =
-    let of = state_of c.args.queue c.args.table.now c.args.pool.now in
+    let of = state_of c.args.queue.now c.args.table.now c.args.pool.now in
     let ok : Sound of = sound of c.requires.pool_value in
     let full : length of.rows ≡ frags_most = rows_long frags_most c.args.table.now c.requires.table_len in
-    let within : (c.scan-whole.result.from ≤ c.scan-whole.result.to) × ((c.scan-whole.result.to ≤ c.args.queue.unordered) × (count c.args.queue ≤ frags_most)) = let w = found_within of ok full c.scan-whole.ensures in (w.0, (w.1, ok.few)) in
+    let within : (c.scan-whole.result.from ≤ c.scan-whole.result.to) × ((c.scan-whole.result.to ≤ c.args.queue.now.unordered) × (count c.args.queue.now ≤ frags_most)) = let w = found_within of ok full c.scan-whole.ensures in (w.0, (w.1, ok.few)) in
     omega (arith, within)
 
 pub overflow_add-from : goal.overflow_add-from
 overflow_add-from c =
-    let of = state_of c.args.queue c.args.table.now c.args.pool.now in
+    let of = state_of c.args.queue.now c.args.table.now c.args.pool.now in
     let ok : Sound of = sound of c.requires.pool_value in
     let full : length of.rows ≡ frags_most = rows_long frags_most c.args.table.now c.requires.table_len in
-    let within : (c.scan-whole.result.from ≤ c.scan-whole.result.to) × ((c.scan-whole.result.to ≤ c.args.queue.unordered) × (count c.args.queue ≤ frags_most)) = let w = found_within of ok full c.scan-whole.ensures in (w.0, (w.1, ok.few)) in
+    let within : (c.scan-whole.result.from ≤ c.scan-whole.result.to) × ((c.scan-whole.result.to ≤ c.args.queue.now.unordered) × (count c.args.queue.now ≤ frags_most)) = let w = found_within of ok full c.scan-whole.ensures in (w.0, (w.1, ok.few)) in
     omega (arith, within)
 
 pub overflow_add-from-2 : goal.overflow_add-from-2
 overflow_add-from-2 c =
-    let of = state_of c.args.queue c.args.table.now c.args.pool.now in
+    let of = state_of c.args.queue.now c.args.table.now c.args.pool.now in
     let ok : Sound of = sound of c.requires.pool_value in
     let full : length of.rows ≡ frags_most = rows_long frags_most c.args.table.now c.requires.table_len in
-    let within : (c.scan-whole.result.from ≤ c.scan-whole.result.to) × ((c.scan-whole.result.to ≤ c.args.queue.unordered) × (count c.args.queue ≤ frags_most)) = let w = found_within of ok full c.scan-whole.ensures in (w.0, (w.1, ok.few)) in
+    let within : (c.scan-whole.result.from ≤ c.scan-whole.result.to) × ((c.scan-whole.result.to ≤ c.args.queue.now.unordered) × (count c.args.queue.now ≤ frags_most)) = let w = found_within of ok full c.scan-whole.ensures in (w.0, (w.1, ok.few)) in
     omega (arith, within)
 
 pub overflow_add-from-3 : goal.overflow_add-from-3
 overflow_add-from-3 c =
-    let of = state_of c.args.queue c.args.table.now c.args.pool.now in
+    let of = state_of c.args.queue.now c.args.table.now c.args.pool.now in
     let ok : Sound of = sound of c.requires.pool_value in
     let full : length of.rows ≡ frags_most = rows_long frags_most c.args.table.now c.requires.table_len in
-    let within : (c.scan-whole.result.from ≤ c.scan-whole.result.to) × ((c.scan-whole.result.to ≤ c.args.queue.unordered) × (count c.args.queue ≤ frags_most)) = let w = found_within of ok full c.scan-whole.ensures in (w.0, (w.1, ok.few)) in
+    let within : (c.scan-whole.result.from ≤ c.scan-whole.result.to) × ((c.scan-whole.result.to ≤ c.args.queue.now.unordered) × (count c.args.queue.now ≤ frags_most)) = let w = found_within of ok full c.scan-whole.ensures in (w.0, (w.1, ok.few)) in
     omega (arith, within)
 
 pub move_fragments-requires : goal.move_fragments-requires
 move_fragments-requires c =
-    let of = state_of c.args.queue c.args.table.now c.args.pool.now in
+    let of = state_of c.args.queue.now c.args.table.now c.args.pool.now in
     let ok : Sound of = sound of c.requires.pool_value in
     let full : length of.rows ≡ frags_most = rows_long frags_most c.args.table.now c.requires.table_len in
-    let within : (c.scan-whole.result.from ≤ c.scan-whole.result.to) × ((c.scan-whole.result.to ≤ c.args.queue.unordered) × (count c.args.queue ≤ frags_most)) = let w = found_within of ok full c.scan-whole.ensures in (w.0, (w.1, ok.few)) in
+    let within : (c.scan-whole.result.from ≤ c.scan-whole.result.to) × ((c.scan-whole.result.to ≤ c.args.queue.now.unordered) × (count c.args.queue.now ≤ frags_most)) = let w = found_within of ok full c.scan-whole.ensures in (w.0, (w.1, ok.few)) in
     let w = within in
     record {
       size_bound = omega arith;
@@ -77,31 +77,31 @@ move_fragments-requires c =
 
 pub overflow_sub-k : goal.overflow_sub-k
 overflow_sub-k c =
-    let of = state_of c.args.queue c.args.table.now c.args.pool.now in
+    let of = state_of c.args.queue.now c.args.table.now c.args.pool.now in
     let ok : Sound of = sound of c.requires.pool_value in
     let full : length of.rows ≡ frags_most = rows_long frags_most c.args.table.now c.requires.table_len in
-    let within : (c.scan-whole.result.from ≤ c.scan-whole.result.to) × ((c.scan-whole.result.to ≤ c.args.queue.unordered) × (count c.args.queue ≤ frags_most)) = let w = found_within of ok full c.scan-whole.ensures in (w.0, (w.1, ok.few)) in
+    let within : (c.scan-whole.result.from ≤ c.scan-whole.result.to) × ((c.scan-whole.result.to ≤ c.args.queue.now.unordered) × (count c.args.queue.now ≤ frags_most)) = let w = found_within of ok full c.scan-whole.ensures in (w.0, (w.1, ok.few)) in
     omega (arith, within)
 
-pub overflow_add-moved : goal.overflow_add-moved
-overflow_add-moved c =
-    let of = state_of c.args.queue c.args.table.now c.args.pool.now in
+pub overflow_add-queue : goal.overflow_add-queue
+overflow_add-queue c =
+    let of = state_of c.args.queue.now c.args.table.now c.args.pool.now in
     let ok : Sound of = sound of c.requires.pool_value in
     let full : length of.rows ≡ frags_most = rows_long frags_most c.args.table.now c.requires.table_len in
-    let within : (c.scan-whole.result.from ≤ c.scan-whole.result.to) × ((c.scan-whole.result.to ≤ c.args.queue.unordered) × (count c.args.queue ≤ frags_most)) = let w = found_within of ok full c.scan-whole.ensures in (w.0, (w.1, ok.few)) in
+    let within : (c.scan-whole.result.from ≤ c.scan-whole.result.to) × ((c.scan-whole.result.to ≤ c.args.queue.now.unordered) × (count c.args.queue.now ≤ frags_most)) = let w = found_within of ok full c.scan-whole.ensures in (w.0, (w.1, ok.few)) in
     omega (arith, within)
 
-pub overflow_sub-moved : goal.overflow_sub-moved
-overflow_sub-moved c =
-    let of = state_of c.args.queue c.args.table.now c.args.pool.now in
+pub overflow_sub-queue : goal.overflow_sub-queue
+overflow_sub-queue c =
+    let of = state_of c.args.queue.now c.args.table.now c.args.pool.now in
     let ok : Sound of = sound of c.requires.pool_value in
     let full : length of.rows ≡ frags_most = rows_long frags_most c.args.table.now c.requires.table_len in
-    let within : (c.scan-whole.result.from ≤ c.scan-whole.result.to) × ((c.scan-whole.result.to ≤ c.args.queue.unordered) × (count c.args.queue ≤ frags_most)) = let w = found_within of ok full c.scan-whole.ensures in (w.0, (w.1, ok.few)) in
+    let within : (c.scan-whole.result.from ≤ c.scan-whole.result.to) × ((c.scan-whole.result.to ≤ c.args.queue.now.unordered) × (count c.args.queue.now ≤ frags_most)) = let w = found_within of ok full c.scan-whole.ensures in (w.0, (w.1, ok.few)) in
     omega (arith, within)
 
 pub returns : goal.returns
 returns c =
-    let of = state_of c.args.queue c.args.table.now c.args.pool.now in
+    let of = state_of c.args.queue.now c.args.table.now c.args.pool.now in
     let ok : Sound of = sound of c.requires.pool_value in
     let full : length of.rows ≡ frags_most = rows_long frags_most c.args.table.now c.requires.table_len in
     found_some of ok full c.scan-whole.ensures c.if-start-end.false c.move_fragments.ensures.table_after c.move_fragments.ensures.pool_after

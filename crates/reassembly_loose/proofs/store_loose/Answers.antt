@@ -15,25 +15,25 @@ use Rattle.reassembly_loose.proofs.store_loose.Goals as goal
 
 pub overflow_add-place : goal.overflow_add-place
 overflow_add-place c =
-    let of = state_of c.args.queue c.args.table.now c.args.pool.now in
+    let of = state_of c.args.queue.now c.args.table.now c.args.pool.now in
     let ok : Sound of = sound of c.requires.pool_value in
     let full : length of.rows ≡ frags_most = rows_long frags_most c.args.table.now c.requires.table_len in
     let new = fragment_of c.args.chunk c.args.user_data.now in
     let made : c.row_of-row.result ≡ row_of new = c.row_of-row.ensures ∙ chunk_row_lem c.args.chunk c.args.user_data.now in
     let placing : (c.walk_back.result ≡ place of ok full new) = rw (← (ap (λ (r : Row). r.tsn) made)) c.walk_back.ensures in
-    let within : c.walk_back.result ≤ c.args.queue.unordered = omega (arith, placing, place_within of ok full new) in
+    let within : c.walk_back.result ≤ c.args.queue.now.unordered = omega (arith, placing, place_within of ok full new) in
     omega (arith, within, ok.few)
 
 pub put_fragment-requires : goal.put_fragment-requires
 unfolding fragment_of
 put_fragment-requires c =
-    let of = state_of c.args.queue c.args.table.now c.args.pool.now in
+    let of = state_of c.args.queue.now c.args.table.now c.args.pool.now in
     let ok : Sound of = sound of c.requires.pool_value in
     let full : length of.rows ≡ frags_most = rows_long frags_most c.args.table.now c.requires.table_len in
     let new = fragment_of c.args.chunk c.args.user_data.now in
     let made : c.row_of-row.result ≡ row_of new = c.row_of-row.ensures ∙ chunk_row_lem c.args.chunk c.args.user_data.now in
     let placing : (c.walk_back.result ≡ place of ok full new) = rw (← (ap (λ (r : Row). r.tsn) made)) c.walk_back.ensures in
-    let within : c.walk_back.result ≤ c.args.queue.unordered = omega (arith, placing, place_within of ok full new) in
+    let within : c.walk_back.result ≤ c.args.queue.now.unordered = omega (arith, placing, place_within of ok full new) in
     let small : length new.bytes < 16777216 = omega (arith, c.requires) in
     let says : long_length c.row_of-row.result.head ≡ length c.args.user_data.now = ap (λ (r : Row). long_length r.head) made ∙ row-size new small in
     let k = ok in
@@ -50,7 +50,7 @@ put_fragment-requires c =
 pub returns : goal.returns
 unfolding fragment_of
 returns c =
-    let of = state_of c.args.queue c.args.table.now c.args.pool.now in
+    let of = state_of c.args.queue.now c.args.table.now c.args.pool.now in
     let ok : Sound of = sound of c.requires.pool_value in
     let full : length of.rows ≡ frags_most = rows_long frags_most c.args.table.now c.requires.table_len in
     let new = fragment_of c.args.chunk c.args.user_data.now in

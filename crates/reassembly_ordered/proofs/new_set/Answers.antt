@@ -17,19 +17,19 @@ use Rattle.reassembly_ordered.proofs.new_set.Goals as goal
 
 pub overflow_add-place : goal.overflow_add-place
 overflow_add-place c =
-    let of = state_of c.args.queue c.args.table.now c.args.pool.now in
+    let of = state_of c.args.queue.now c.args.table.now c.args.pool.now in
     let ok : Sound of = sound of (search rules) in
     let full : length of.rows ≡ frags_most = rows_long frags_most c.args.table.now (omega arith) in
-    let placed : c.place_ssn.result ≤ c.args.queue.ordered = omega (arith, last_within (of_row (ssn_before c.args.chunk.stream_sequence_number)) (ordered_rows of), ordered-long of ok.few full 0, c.place_ssn.ensures) in
+    let placed : c.place_ssn.result ≤ c.args.queue.now.ordered = omega (arith, last_within (of_row (ssn_before c.args.chunk.stream_sequence_number)) (ordered_rows of), ordered-long of ok.few full 0, c.place_ssn.ensures) in
     omega (arith, placed)
 
 pub put_fragment-requires : goal.put_fragment-requires
 put_fragment-requires c =
     let short : length c.args.user_data.now < 16777216 = omega arith in
-    let of = state_of c.args.queue c.args.table.now c.args.pool.now in
+    let of = state_of c.args.queue.now c.args.table.now c.args.pool.now in
     let ok : Sound of = sound of (search rules) in
     let full : length of.rows ≡ frags_most = rows_long frags_most c.args.table.now (omega arith) in
-    let placed : c.place_ssn.result ≤ c.args.queue.ordered = omega (arith, last_within (of_row (ssn_before c.args.chunk.stream_sequence_number)) (ordered_rows of), ordered-long of ok.few full 0, c.place_ssn.ensures) in
+    let placed : c.place_ssn.result ≤ c.args.queue.now.ordered = omega (arith, last_within (of_row (ssn_before c.args.chunk.stream_sequence_number)) (ordered_rows of), ordered-long of ok.few full 0, c.place_ssn.ensures) in
     let long = chunk-long c.args.chunk c.args.user_data.now short c.row_of-row.ensures in
     record {
       size_bound = omega arith;
@@ -41,19 +41,19 @@ put_fragment-requires c =
       head_value = long;
     }
 
-pub overflow_add-grown : goal.overflow_add-grown
-overflow_add-grown c =
-    let room : (count c.args.queue < frags_most) × (c.args.queue.n_bytes + length c.args.user_data.now ≤ bytes_most) = (search rules, search rules) in
+pub overflow_add-queue : goal.overflow_add-queue
+overflow_add-queue c =
+    let room : (count c.args.queue.now < frags_most) × (c.args.queue.now.n_bytes + length c.args.user_data.now ≤ bytes_most) = (search rules, search rules) in
     omega (arith, room)
 
-pub overflow_add-grown-2 : goal.overflow_add-grown-2
-overflow_add-grown-2 c =
-    let room : (count c.args.queue < frags_most) × (c.args.queue.n_bytes + length c.args.user_data.now ≤ bytes_most) = (search rules, search rules) in
+pub overflow_add-queue-2 : goal.overflow_add-queue-2
+overflow_add-queue-2 c =
+    let room : (count c.args.queue.now < frags_most) × (c.args.queue.now.n_bytes + length c.args.user_data.now ≤ bytes_most) = (search rules, search rules) in
     omega (arith, room)
 
 pub returns : goal.returns
 returns c =
-    let of = state_of c.args.queue c.args.table.now c.args.pool.now in
+    let of = state_of c.args.queue.now c.args.table.now c.args.pool.now in
     let ok : Sound of = sound of (search rules) in
     let full : length of.rows ≡ frags_most = rows_long frags_most c.args.table.now (omega arith) in
     let small : c.args.chunk.stream_sequence_number < 65536 = search rules in

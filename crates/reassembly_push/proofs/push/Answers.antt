@@ -17,22 +17,22 @@ returns-then-unsound c = rw (sym c.unsound.ensures ∙ c.if-unsound.true)
 
 pub returns-then-chunk-counts : goal.returns-then-chunk-counts
 returns-then-chunk-counts c =
-    let of = state_of c.args.counts c.args.table.now c.args.pool.now in
+    let of = state_of c.args.counts.now c.args.table.now c.args.pool.now in
     let ok : unsound of ≡ false = sym c.unsound.ensures ∙ c.if-unsound.false in
     let full : length of.rows ≡ frags_most = rows_long frags_most c.args.table.now (omega arith) in
     push_other of ok _ _ full c.if-chunk-counts.true
 
 pub has_room-room-requires : goal.has_room-room-requires
 has_room-room-requires c =
-    let of = state_of c.args.counts c.args.table.now c.args.pool.now in
+    let of = state_of c.args.counts.now c.args.table.now c.args.pool.now in
     let ok : unsound of ≡ false = sym c.unsound.ensures ∙ c.if-unsound.false in
     (sound of ok).few
 
 pub push-requires : goal.push-requires
 push-requires c =
-    let of = state_of c.args.counts c.args.table.now c.args.pool.now in
+    let of = state_of c.args.counts.now c.args.table.now c.args.pool.now in
     let ok : unsound of ≡ false = sym c.unsound.ensures ∙ c.if-unsound.false in
-    let fits : fits_if c.has_room-room.result c.args.counts (length c.args.user_data.now) = room_fits c.args.counts (length c.args.user_data.now) c.has_room-room.ensures in
+    let fits : fits_if c.has_room-room.result c.args.counts.now (length c.args.user_data.now) = room_fits c.args.counts.now (length c.args.user_data.now) c.has_room-room.ensures in
     record {
       table_len = omega arith;
       pool_value = ok;
@@ -41,16 +41,16 @@ push-requires c =
 
 pub returns-then-chunk : goal.returns-then-chunk
 returns-then-chunk c =
-    let of = state_of c.args.counts c.args.table.now c.args.pool.now in
+    let of = state_of c.args.counts.now c.args.table.now c.args.pool.now in
     let ok : unsound of ≡ false = sym c.unsound.ensures ∙ c.if-unsound.false in
     let full : length of.rows ≡ frags_most = rows_long frags_most c.args.table.now (omega arith) in
     c.push.ensures ∙ push-unordered of ok _ _ c.if-chunk-counts.false full c.has_room-room.ensures c.if-chunk.true
 
 pub push-requires-2 : goal.push-requires-2
 push-requires-2 c =
-    let of = state_of c.args.counts c.args.table.now c.args.pool.now in
+    let of = state_of c.args.counts.now c.args.table.now c.args.pool.now in
     let ok : unsound of ≡ false = sym c.unsound.ensures ∙ c.if-unsound.false in
-    let fits : fits_if c.has_room-room.result c.args.counts (length c.args.user_data.now) = room_fits c.args.counts (length c.args.user_data.now) c.has_room-room.ensures in
+    let fits : fits_if c.has_room-room.result c.args.counts.now (length c.args.user_data.now) = room_fits c.args.counts.now (length c.args.user_data.now) c.has_room-room.ensures in
     record {
       table_len = omega arith;
       pool_value = ok;
@@ -59,7 +59,7 @@ push-requires-2 c =
 
 pub returns : goal.returns
 returns c =
-    let of = state_of c.args.counts c.args.table.now c.args.pool.now in
+    let of = state_of c.args.counts.now c.args.table.now c.args.pool.now in
     let ok : unsound of ≡ false = sym c.unsound.ensures ∙ c.if-unsound.false in
     let full : length of.rows ≡ frags_most = rows_long frags_most c.args.table.now (omega arith) in
     c.push-2.ensures ∙ push-ordered of ok _ _ c.if-chunk-counts.false full c.has_room-room.ensures c.if-chunk.false

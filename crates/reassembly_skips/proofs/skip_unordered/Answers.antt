@@ -12,19 +12,19 @@ use Rattle.reassembly_skips.proofs.skip_unordered.Goals as goal
 
 pub overflow_add-count : goal.overflow_add-count
 overflow_add-count c =
-    let of = state_of c.args.counts c.args.table.now c.args.pool.now in
+    let of = state_of c.args.queue.now c.args.table.now c.args.pool.now in
     let ok : Sound of = sound of c.requires.pool_value in
     omega (arith, ok.few)
 
 pub overflow_add-count-2 : goal.overflow_add-count-2
 overflow_add-count-2 c =
-    let of = state_of c.args.counts c.args.table.now c.args.pool.now in
+    let of = state_of c.args.queue.now c.args.table.now c.args.pool.now in
     let ok : Sound of = sound of c.requires.pool_value in
     omega (arith, ok.few)
 
 pub find_after-k-requires : goal.find_after-k-requires
 find_after-k-requires c =
-    let of = state_of c.args.counts c.args.table.now c.args.pool.now in
+    let of = state_of c.args.queue.now c.args.table.now c.args.pool.now in
     let ok : Sound of = sound of c.requires.pool_value in
     record {
       table_len = omega arith;
@@ -33,10 +33,10 @@ find_after-k-requires c =
 
 pub remove_fragments-bytes-requires : goal.remove_fragments-bytes-requires
 remove_fragments-bytes-requires c =
-    let of = state_of c.args.counts c.args.table.now c.args.pool.now in
+    let of = state_of c.args.queue.now c.args.table.now c.args.pool.now in
     let ok : Sound of = sound of c.requires.pool_value in
     let full : length of.rows ≡ frags_most = rows_long frags_most c.args.table.now c.requires.table_len in
-    let few : c.find_after-k.result ≤ c.args.counts.unordered = omega (arith, c.find_after-k.ensures, passed_few of ok full c.args.new_cumulative_tsn) in
+    let few : c.find_after-k.result ≤ c.args.queue.now.unordered = omega (arith, c.find_after-k.ensures, passed_few of ok full c.args.new_cumulative_tsn) in
     let k = ok in
     record {
       size_bound = omega arith;
@@ -49,22 +49,22 @@ remove_fragments-bytes-requires c =
 
 pub overflow_sub-queue : goal.overflow_sub-queue
 overflow_sub-queue c =
-    let of = state_of c.args.counts c.args.table.now c.args.pool.now in
+    let of = state_of c.args.queue.now c.args.table.now c.args.pool.now in
     let ok : Sound of = sound of c.requires.pool_value in
     let full : length of.rows ≡ frags_most = rows_long frags_most c.args.table.now c.requires.table_len in
-    let few : c.find_after-k.result ≤ c.args.counts.unordered = omega (arith, c.find_after-k.ensures, passed_few of ok full c.args.new_cumulative_tsn) in
+    let few : c.find_after-k.result ≤ c.args.queue.now.unordered = omega (arith, c.find_after-k.ensures, passed_few of ok full c.args.new_cumulative_tsn) in
     few
 
 pub overflow_sub-queue-2 : goal.overflow_sub-queue-2
 overflow_sub-queue-2 c =
-    let of = state_of c.args.counts c.args.table.now c.args.pool.now in
+    let of = state_of c.args.queue.now c.args.table.now c.args.pool.now in
     let ok : Sound of = sound of c.requires.pool_value in
     let full : length of.rows ≡ frags_most = rows_long frags_most c.args.table.now c.requires.table_len in
     freed_bytes of ok full c.args.new_cumulative_tsn c.find_after-k.ensures c.remove_fragments-bytes.ensures.value
 
 pub returns : goal.returns
 returns c =
-    let of = state_of c.args.counts c.args.table.now c.args.pool.now in
+    let of = state_of c.args.queue.now c.args.table.now c.args.pool.now in
     let ok : Sound of = sound of c.requires.pool_value in
     let full : length of.rows ≡ frags_most = rows_long frags_most c.args.table.now c.requires.table_len in
     let e = c.remove_fragments-bytes.ensures in

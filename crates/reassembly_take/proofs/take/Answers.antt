@@ -17,7 +17,7 @@ use Rattle.reassembly_take.proofs.take.Goals as goal
 
 pub in_turn-turn-requires : goal.in_turn-turn-requires
 in_turn-turn-requires c =
-    let of = state_of c.args.queue c.args.table.now c.args.pool.now in
+    let of = state_of c.args.queue.now c.args.table.now c.args.pool.now in
     let ok : Sound of = sound of c.requires.pool_value in
     record {
       table_len = search rules;
@@ -26,13 +26,13 @@ in_turn-turn-requires c =
 
 pub overflow_sub-k : goal.overflow_sub-k
 overflow_sub-k c =
-    let of = state_of c.args.queue c.args.table.now c.args.pool.now in
+    let of = state_of c.args.queue.now c.args.table.now c.args.pool.now in
     let in-turn : InTurn of c.in_turn-turn.result = c.in_turn-turn.ensures c.args.pool.now in
     in-turn.upward
 
 pub returns-then-k-eq0 : goal.returns-then-k-eq0
 returns-then-k-eq0 c =
-    let of = state_of c.args.queue c.args.table.now c.args.pool.now in
+    let of = state_of c.args.queue.now c.args.table.now c.args.pool.now in
     let ok : Sound of = sound of c.requires.pool_value in
     let full : length of.rows ≡ frags_most = rows_long frags_most c.args.table.now c.requires.table_len in
     let in-turn : InTurn of c.in_turn-turn.result = c.in_turn-turn.ensures c.args.pool.now in
@@ -40,11 +40,11 @@ returns-then-k-eq0 c =
 
 pub sum_long-size-requires : goal.sum_long-size-requires
 sum_long-size-requires c =
-    let of = state_of c.args.queue c.args.table.now c.args.pool.now in
+    let of = state_of c.args.queue.now c.args.table.now c.args.pool.now in
     let in-turn : InTurn of c.in_turn-turn.result = c.in_turn-turn.ensures c.args.pool.now in
     let ok : Sound of = sound of c.requires.pool_value in
     let full : length of.rows ≡ frags_most = rows_long frags_most c.args.table.now c.requires.table_len in
-    let within : c.in_turn-turn.result.to ≤ count c.args.queue = turn_within of ok full c.in_turn-turn.result in-turn in
+    let within : c.in_turn-turn.result.to ≤ count c.args.queue.now = turn_within of ok full c.in_turn-turn.result in-turn in
     record {
       size_bound = omega arith;
       table_len = omega arith;
@@ -53,7 +53,7 @@ sum_long-size-requires c =
 
 pub returns-then-buffer-size : goal.returns-then-buffer-size
 returns-then-buffer-size c =
-    let of = state_of c.args.queue c.args.table.now c.args.pool.now in
+    let of = state_of c.args.queue.now c.args.table.now c.args.pool.now in
     let ok : Sound of = sound of c.requires.pool_value in
     let full : length of.rows ≡ frags_most = rows_long frags_most c.args.table.now c.requires.table_len in
     let in-turn : InTurn of c.in_turn-turn.result = c.in_turn-turn.ensures c.args.pool.now in
@@ -62,11 +62,11 @@ returns-then-buffer-size c =
 
 pub sum_long-off-requires : goal.sum_long-off-requires
 sum_long-off-requires c =
-    let of = state_of c.args.queue c.args.table.now c.args.pool.now in
+    let of = state_of c.args.queue.now c.args.table.now c.args.pool.now in
     let in-turn : InTurn of c.in_turn-turn.result = c.in_turn-turn.ensures c.args.pool.now in
     let ok : Sound of = sound of c.requires.pool_value in
     let full : length of.rows ≡ frags_most = rows_long frags_most c.args.table.now c.requires.table_len in
-    let within : c.in_turn-turn.result.to ≤ count c.args.queue = turn_within of ok full c.in_turn-turn.result in-turn in
+    let within : c.in_turn-turn.result.to ≤ count c.args.queue.now = turn_within of ok full c.in_turn-turn.result in-turn in
     record {
       size_bound = omega arith;
       table_len = omega arith;
@@ -75,23 +75,23 @@ sum_long-off-requires c =
 
 pub overflow_add-held : goal.overflow_add-held
 overflow_add-held c =
-    let of = state_of c.args.queue c.args.table.now c.args.pool.now in
+    let of = state_of c.args.queue.now c.args.table.now c.args.pool.now in
     let ok : Sound of = sound of c.requires.pool_value in
     let few = ok.few in search rules
 
 pub overflow_add-held-2 : goal.overflow_add-held-2
 overflow_add-held-2 c =
-    let of = state_of c.args.queue c.args.table.now c.args.pool.now in
+    let of = state_of c.args.queue.now c.args.table.now c.args.pool.now in
     let ok : Sound of = sound of c.requires.pool_value in
     let few = ok.few in search rules
 
 pub take_run-hand-requires : goal.take_run-hand-requires
 take_run-hand-requires c =
-    let of = state_of c.args.queue c.args.table.now c.args.pool.now in
+    let of = state_of c.args.queue.now c.args.table.now c.args.pool.now in
     let ok : Sound of = sound of c.requires.pool_value in
     let in-turn : InTurn of c.in_turn-turn.result = c.in_turn-turn.ensures c.args.pool.now in
     let full : length of.rows ≡ frags_most = rows_long frags_most c.args.table.now c.requires.table_len in
-    let within : c.in_turn-turn.result.to ≤ count c.args.queue = turn_within of ok full c.in_turn-turn.result in-turn in
+    let within : c.in_turn-turn.result.to ≤ count c.args.queue.now = turn_within of ok full c.in_turn-turn.result in-turn in
     let k = ok in
     record {
       table_len = omega arith;
@@ -107,12 +107,12 @@ take_run-hand-requires c =
 
 pub without-requires : goal.without-requires
 without-requires c =
-    let of = state_of c.args.queue c.args.table.now c.args.pool.now in
+    let of = state_of c.args.queue.now c.args.table.now c.args.pool.now in
     let in-turn : InTurn of c.in_turn-turn.result = c.in_turn-turn.ensures c.args.pool.now in
     let ok : Sound of = sound of c.requires.pool_value in
     let full : length of.rows ≡ frags_most = rows_long frags_most c.args.table.now c.requires.table_len in
-    let within : c.in_turn-turn.result.to ≤ count c.args.queue = turn_within of ok full c.in_turn-turn.result in-turn in
-    let ends : (let t = c.in_turn-turn.result in B (take (t.to - t.from) (drop t.from of.rows)) ≤ c.args.queue.n_bytes) = let t = c.in_turn-turn.result in omega (arith, run_end of.rows of.pool (count c.args.queue) t.from (t.to - t.from) (omega (arith, in-turn.upward, within)), ok.sums) in
+    let within : c.in_turn-turn.result.to ≤ count c.args.queue.now = turn_within of ok full c.in_turn-turn.result in-turn in
+    let ends : (let t = c.in_turn-turn.result in B (take (t.to - t.from) (drop t.from of.rows)) ≤ c.args.queue.now.n_bytes) = let t = c.in_turn-turn.result in omega (arith, run_end of.rows of.pool (count c.args.queue.now) t.from (t.to - t.from) (omega (arith, in-turn.upward, within)), ok.sums) in
     record {
       bytes_bound = omega (arith, ends, c.sum_long-size.ensures);
       k_bound = omega (arith, in-turn.within);
@@ -121,7 +121,7 @@ without-requires c =
 pub returns : goal.returns
 unfolding message_held
 returns c =
-    let of = state_of c.args.queue c.args.table.now c.args.pool.now in
+    let of = state_of c.args.queue.now c.args.table.now c.args.pool.now in
     let ok : Sound of = sound of c.requires.pool_value in
     let full : length of.rows ≡ frags_most = rows_long frags_most c.args.table.now c.requires.table_len in
     let in-turn : InTurn of c.in_turn-turn.result = c.in_turn-turn.ensures c.args.pool.now in

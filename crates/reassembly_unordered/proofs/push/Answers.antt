@@ -14,7 +14,7 @@ use Rattle.reassembly_unordered.proofs.push.Goals as goal
 
 pub too_large-requires : goal.too_large-requires
 too_large-requires c =
-    let of = state_of c.args.queue c.args.table.now c.args.pool.now in
+    let of = state_of c.args.queue.now c.args.table.now c.args.pool.now in
     let ok : Sound of = sound of c.requires.pool_value in
     record {
       table_len = c.requires.table_len;
@@ -24,15 +24,14 @@ too_large-requires c =
 
 pub returns-then-too_large : goal.returns-then-too_large
 returns-then-too_large c =
-    let of = state_of c.args.queue c.args.table.now c.args.pool.now in
+    let of = state_of c.args.queue.now c.args.table.now c.args.pool.now in
     let ok : Sound of = sound of c.requires.pool_value in
     let full : length of.rows ≡ frags_most = rows_long frags_most c.args.table.now c.requires.table_len in
-    rw (c.unchanged.ensures.0, c.unchanged.ensures.1)
-    (push-large of ok full c.args.chunk c.args.user_data.now c.args.room (sym c.too_large.ensures ∙ c.if-too_large.true))
+    push-large of ok full c.args.chunk c.args.user_data.now c.args.room (sym c.too_large.ensures ∙ c.if-too_large.true)
 
 pub has_tsn-requires : goal.has_tsn-requires
 has_tsn-requires c =
-    let of = state_of c.args.queue c.args.table.now c.args.pool.now in
+    let of = state_of c.args.queue.now c.args.table.now c.args.pool.now in
     let ok : Sound of = sound of c.requires.pool_value in
     record {
       table_len = c.requires.table_len;
@@ -41,25 +40,23 @@ has_tsn-requires c =
 
 pub returns-then-has_tsn : goal.returns-then-has_tsn
 returns-then-has_tsn c =
-    let of = state_of c.args.queue c.args.table.now c.args.pool.now in
+    let of = state_of c.args.queue.now c.args.table.now c.args.pool.now in
     let ok : Sound of = sound of c.requires.pool_value in
     let full : length of.rows ≡ frags_most = rows_long frags_most c.args.table.now c.requires.table_len in
-    rw (c.unchanged-then-has_tsn.ensures.0, c.unchanged-then-has_tsn.ensures.1)
-    (push-again of ok full c.args.chunk c.args.user_data.now c.args.room (sym c.too_large.ensures ∙ c.if-too_large.false) (sym c.has_tsn.ensures ∙ c.if-has_tsn.true))
+    push-again of ok full c.args.chunk c.args.user_data.now c.args.room (sym c.too_large.ensures ∙ c.if-too_large.false) (sym c.has_tsn.ensures ∙ c.if-has_tsn.true)
 
 pub returns-then-not-room : goal.returns-then-not-room
 returns-then-not-room c =
-    let of = state_of c.args.queue c.args.table.now c.args.pool.now in
+    let of = state_of c.args.queue.now c.args.table.now c.args.pool.now in
     let ok : Sound of = sound of c.requires.pool_value in
     let full : length of.rows ≡ frags_most = rows_long frags_most c.args.table.now c.requires.table_len in
-    rw (c.unchanged-then-not-room.ensures.0, c.unchanged-then-not-room.ensures.1)
-    (push_crowded of ok full c.args.chunk c.args.user_data.now c.args.room (sym c.too_large.ensures ∙ c.if-too_large.false) (sym c.has_tsn.ensures ∙ c.if-has_tsn.false) c.if-not-room.true)
+    push_crowded of ok full c.args.chunk c.args.user_data.now c.args.room (sym c.too_large.ensures ∙ c.if-too_large.false) (sym c.has_tsn.ensures ∙ c.if-has_tsn.false) c.if-not-room.true
 
-pub store_loose-grown-requires : goal.store_loose-grown-requires
+pub store_loose-requires : goal.store_loose-requires
 unfolding fragment_of
-store_loose-grown-requires c =
+store_loose-requires c =
     let new = fragment_of c.args.chunk c.args.user_data.now in
-    let room : ((count c.args.queue < frags_most) × (c.args.queue.n_bytes + length new.bytes ≤ bytes_most)) = c.requires.fits_if c.if-not-room.false in
+    let room : ((count c.args.queue.now < frags_most) × (c.args.queue.now.n_bytes + length new.bytes ≤ bytes_most)) = c.requires.fits_if c.if-not-room.false in
     record {
       table_len = c.requires.table_len;
       pool_value = c.requires.pool_value;
@@ -70,24 +67,24 @@ store_loose-grown-requires c =
 pub settle-requires : goal.settle-requires
 unfolding fragment_of
 settle-requires c =
-    let of = state_of c.args.queue c.args.table.now c.args.pool.now in
+    let of = state_of c.args.queue.now c.args.table.now c.args.pool.now in
     let ok : Sound of = sound of c.requires.pool_value in
     let full : length of.rows ≡ frags_most = rows_long frags_most c.args.table.now c.requires.table_len in
     let new = fragment_of c.args.chunk c.args.user_data.now in
-    let room : ((count c.args.queue < frags_most) × (c.args.queue.n_bytes + length new.bytes ≤ bytes_most)) = c.requires.fits_if c.if-not-room.false in
+    let room : ((count c.args.queue.now < frags_most) × (c.args.queue.now.n_bytes + length new.bytes ≤ bytes_most)) = c.requires.fits_if c.if-not-room.false in
     record {
       table_len = search rules;
-      pool_value = ap unsound c.store_loose-grown.ensures ∙ stored_sound of ok full new room.0 room.1;
+      pool_value = ap unsound c.store_loose.ensures ∙ stored_sound of ok full new room.0 room.1;
     }
 
 pub returns : goal.returns
 unfolding fragment_of
 returns c =
-    let of = state_of c.args.queue c.args.table.now c.args.pool.now in
+    let of = state_of c.args.queue.now c.args.table.now c.args.pool.now in
     let ok : Sound of = sound of c.requires.pool_value in
     let full : length of.rows ≡ frags_most = rows_long frags_most c.args.table.now c.requires.table_len in
     let new = fragment_of c.args.chunk c.args.user_data.now in
-    let room : ((count c.args.queue < frags_most) × (c.args.queue.n_bytes + length new.bytes ≤ bytes_most)) = c.requires.fits_if c.if-not-room.false in
-    c.settle.ensures ∙ ap (λ (x : State). laid x (settled (view x))) c.store_loose-grown.ensures
+    let room : ((count c.args.queue.now < frags_most) × (c.args.queue.now.n_bytes + length new.bytes ≤ bytes_most)) = c.requires.fits_if c.if-not-room.false in
+    c.settle.ensures ∙ ap (λ (x : State). laid x (settled (view x))) c.store_loose.ensures
     ∙ stored-settled of ok full new room.0 room.1
     ∙ push_stores of ok full c.args.chunk c.args.user_data.now c.args.room (sym c.too_large.ensures ∙ c.if-too_large.false) (sym c.has_tsn.ensures ∙ c.if-has_tsn.false) c.if-not-room.false

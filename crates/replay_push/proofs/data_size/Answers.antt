@@ -12,20 +12,20 @@ use Rattle.replay_push.proofs.data_size.Goals as goal
 
 pub overflow_sub-result : goal.overflow_sub-result
 overflow_sub-result c =
-    let room = rw c.in-Header.is at c.header-any.ensures.room in
+    let room = rw c.in-Ok.is at c.header.ensures.room in
     omega arith
 
-pub returns-in-Refused : goal.returns-in-Refused
-returns-in-Refused c e =
+pub returns-in-Err : goal.returns-in-Err
+returns-in-Err c e =
     let raw = c.args.raw.now in
     let f = header-there raw (λ i. (c.type_inv.raw i).fits) in
-    let no = told-refused (data_checks (length raw) (front_header raw)) (front_header raw) c.header-any.result (c.header-any.ensures.result_value f) c.in-Refused.is in
+    let no = told-refused (data_checks (length raw) (front_header raw)) (front_header raw) (rw c.in-Err.is at (c.header.ensures.result_value f)) in
     let z : ◌≡◌ {A = ℕ} 0 1 = cc in
     absurd (omega arith)
 
-pub returns-in-Header : goal.returns-in-Header
-returns-in-Header c e =
+pub returns-in-Ok : goal.returns-in-Ok
+returns-in-Ok c e =
     let raw = c.args.raw.now in
     let f = header-there raw (λ i. (c.type_inv.raw i).fits) in
-    let t = told-taken (data_checks (length raw) (front_header raw)) (front_header raw) c.header-any.result (c.header-any.ensures.result_value f) c.in-Header.is in
+    let t = told-taken (data_checks (length raw) (front_header raw)) (front_header raw) (rw c.in-Ok.is at (c.header.ensures.result_value f)) in
     ap (λ (h : Header). h.size - 16) t.1

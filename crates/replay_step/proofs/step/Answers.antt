@@ -7,21 +7,21 @@ use Rattle.replay_turn.proofs.Steps.{nothing-stepped, cut-stepped, chunk-stepped
 use Rattle.replay_step.proofs.step.Goals as goal
 
 pub slice_bounds-chunk_step-end : goal.slice_bounds-chunk_step-end
-slice_bounds-chunk_step-end c = omega (arith, (starts_within c.args.rest.now (rw c.in-Chunk.is at c.record_at-found.ensures)).0)
+slice_bounds-chunk_step-end c = omega (arith, (starts_within c.args.rest.now (rw c.in-Some-Chunk.field-0-is at c.in-Some-Chunk.ensures)).0)
 
-pub returns-in-Nothing : goal.returns-in-Nothing
-returns-in-Nothing c =
+pub returns-in-None : goal.returns-in-None
+returns-in-None c =
     let a = c.args in
-    nothing-stepped (state_of a.replay a.table.now) a.rest.now a.line.now (rw c.in-Nothing.is at c.record_at-found.ensures)
+    nothing-stepped (state_of a.replay.now a.table.now) a.rest.now a.line.now c.in-None.ensures
 
-pub returns-in-Cut : goal.returns-in-Cut
-returns-in-Cut c =
+pub returns-in-Some-Cut : goal.returns-in-Some-Cut
+returns-in-Some-Cut c =
     let a = c.args in
-    let s = state_of a.replay a.table.now in
-    c.cut_step.ensures a.table.now ∙ cut-stepped s a.rest.now a.line.now (rw c.in-Cut.is at c.record_at-found.ensures)
+    let s = state_of a.replay.now a.table.now in
+    c.cut_step.ensures a.table.now ∙ cut-stepped s a.rest.now a.line.now (rw c.in-Some-Cut.field-0-is at c.in-Some-Cut.ensures)
 
-pub returns-in-Chunk : goal.returns-in-Chunk
-returns-in-Chunk c =
+pub returns-in-Some-Chunk : goal.returns-in-Some-Chunk
+returns-in-Some-Chunk c =
     let a = c.args in
-    let s = state_of a.replay a.table.now in
-    c.chunk_step.ensures ∙ chunk-stepped s a.rest.now a.line.now (rw c.in-Chunk.is at c.record_at-found.ensures)
+    let s = state_of a.replay.now a.table.now in
+    c.chunk_step.ensures ∙ chunk-stepped s a.rest.now a.line.now (rw c.in-Some-Chunk.field-0-is at c.in-Some-Chunk.ensures)

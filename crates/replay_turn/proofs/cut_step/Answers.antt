@@ -6,4 +6,4 @@ use Rattle.replay_turn.proofs.cut_step.Goals as goal
 pub returns : goal.returns
 returns c ws =
     let a = c.args in
-    cut_left (state_of a.replay ws) a.line.now c.put_cut-written.ensures c.counted-counters.ensures
+    cut_left (state_of a.replay.now ws) a.line.now c.put_cut-written.ensures c.count.ensures

@@ -18,4 +18,4 @@ returns c f =
     let a = c.args in
     let long : 4 ≤ length (drop (4 * a.i) a.part.now) = rw length-drop (omega arith) in
     let w : Whole (drop (4 * a.i) a.part.now) (big_endian 4 f.fields) 4 = record { long = long; sized = refl; begins = f.begins } in
-    rw (lt-leb _ _ c.if-part-i.false, field w 0 4 (omega arith) f.fits (search rules) refl c.get_u32-tsn.ensures)
+    rw (lt-leb _ _ c.if-part-i.false, field w 0 4 (omega arith) f.fits (search rules) refl c.get_u32.ensures)

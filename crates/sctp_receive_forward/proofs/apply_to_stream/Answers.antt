@@ -2,4 +2,4 @@
 use Rattle.sctp_receive_forward.proofs.apply_to_stream.Goals as goal
 
 pub returns : goal.returns
-returns c f = c.apply_to_stream.ensures f
+returns c f = c.apply_to_stream-answer.ensures f

@@ -1,16 +1,8 @@
--- `taken` meets its contract: the queue's numbers, and the message's, or none, or the refusal.
+-- `taken` meets its contract where a message comes: the queue's numbers, and the message's.
 use mathlib.Core.Path.{refl}
-use native.Mathlib.Omega.{arith}
-use Rattle.sctp_receive_result.proofs.Codes.{back_refuse}
 use Rattle.reassembly_state.specs.Answers.{message_held}
 use Rattle.sctp_receive_fragments.proofs.taken.Goals as goal
 
-pub returns-in-Message : goal.returns-in-Message
+pub returns-in-Ok-Some : goal.returns-in-Ok-Some
 unfolding message_held
-returns-in-Message c = (refl, rw c.in-Message.is)
-
-pub returns-in-Nothing : goal.returns-in-Nothing
-returns-in-Nothing c = (refl, rw c.in-Nothing.is)
-
-pub returns-in-Refused : goal.returns-in-Refused
-returns-in-Refused c = (refl, rw (c.in-Refused.is, back_refuse c.in-Refused.k (omega arith)))
+returns-in-Ok-Some c = (refl, rw (c.in-Ok-Some.is, rw c.in-Ok-Some.is at c.in-Ok-Some.field-0-is))

@@ -1,17 +1,16 @@
 -- `chunk_at` meets its contract: the step decides.
-use native.Mathlib.Omega.{arith}
-use Rattle.sctp_receive_result.proofs.Codes.{back_refuse}
+use borrow.Author.Rules.{rules}
 use Rattle.sctp_receive_packet_chunks.specs.Stops.{stop_at}
 use Rattle.sctp_receive_packet_chunks.proofs.chunk_at.Goals as goal
 
-pub returns-in-Chunk : goal.returns-in-Chunk
+pub returns-in-Ok-Some : goal.returns-in-Ok-Some
 unfolding stop_at
-returns-in-Chunk c = rw (← c.chunk_at-step.ensures, c.in-Chunk.is)
+returns-in-Ok-Some c = rw (← (rw c.in-Ok-Some.field-0-is at c.in-Ok-Some.ensures))
 
-pub returns-in-End : goal.returns-in-End
+pub returns-in-Ok-None : goal.returns-in-Ok-None
 unfolding stop_at
-returns-in-End c = rw (← c.chunk_at-step.ensures, c.in-End.is)
+returns-in-Ok-None c = rw (← (rw c.in-Ok-None.field-0-is at c.in-Ok-None.ensures))
 
-pub returns-in-Refused : goal.returns-in-Refused
+pub returns-in-Err : goal.returns-in-Err
 unfolding stop_at
-returns-in-Refused c = rw (← c.chunk_at-step.ensures, c.in-Refused.is, back_refuse c.in-Refused.k (omega arith))
+returns-in-Err c = rw (← c.in-Err.ensures) (search rules)

@@ -1,10 +1,9 @@
 -- `unmarshal` meets its contract: the fields as read, else 0 and the refusal.
-use native.Mathlib.Omega.{arith}
-use Rattle.sctp_receive_result.proofs.Codes.{back_refuse}
+use borrow.Author.Rules.{rules}
 use Rattle.sctp_receive_packets.proofs.unmarshal.Goals as goal
 
-pub returns-in-Header : goal.returns-in-Header
-returns-in-Header c f = rw (← (c.unmarshal-answer.ensures f), c.in-Header.is)
+pub returns-in-Ok : goal.returns-in-Ok
+returns-in-Ok c f = rw (← (c.in-Ok.ensures f))
 
-pub returns-in-Refused : goal.returns-in-Refused
-returns-in-Refused c f = rw (← (c.unmarshal-answer.ensures f), c.in-Refused.is, back_refuse c.in-Refused.k (omega arith))
+pub returns-in-Err : goal.returns-in-Err
+returns-in-Err c f = rw (← (c.in-Err.ensures f)) (search rules)

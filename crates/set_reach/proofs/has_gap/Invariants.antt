@@ -6,6 +6,3 @@ use Rattle.set_reach.proofs.has_gap.Given as goal
 
 abbrev pub invariant-loop-i : goal.invariant-loop-i
 invariant-loop-i l = (l.tsns ≡ l.size + l.from) × (l.end ≡ l.n - 1) × Gap l.tsn l.size l.table l.from l.n l.i
-
-abbrev pub decreases-loop-i : goal.decreases-loop-i
-decreases-loop-i l = l.end - l.i

@@ -12,7 +12,6 @@ use Rattle.streams_model.specs.State.{state_of, rows_held, bytes_said}
 use Rattle.table.specs.Rows.{rows_of}
 use Rattle.reassembly_state.specs.Model.{keep_ordered}
 use Rattle.reassembly_state.specs.Rows.{set_at, set_run}
-use Rattle.reassembly_state.specs.State as one
 use Rattle.streams_model.specs.State.{own}
 use Rattle.streams_model.specs.Among.{Others, among_none, among}
 use Rattle.reassembly_state.specs.declared.Counts.{Counts}
@@ -25,7 +24,7 @@ pub make_room-requires : goal.make_room-requires
 make_room-requires c =
     let sized : length c.args.table.now ≡ 4 * frags_most = search rules in
     let here : c.args.stream < streams_most = search rules in
-    let of = state_of c.args.streams c.args.table.now c.args.pool.now in
+    let of = state_of c.args.streams.now c.args.table.now c.args.pool.now in
     let roomy : (rows_held of.queues < frags_most) × (bytes_said of.queues + length c.args.user_data.now ≤ bytes_most) = (search rules, search rules) in
     let others : let p = c.args.place in Others of.queues c.args.stream p.before.rows p.before.bytes p.behind.rows p.behind.bytes = search rules in
     let front : c.args.place.queue ≡ among_none of.queues c.args.stream = search rules in
@@ -39,9 +38,9 @@ make_room-requires c =
       queue_value = front;
     }
 
-pub keep-left-requires : goal.keep-left-requires
-keep-left-requires c =
-    let of = state_of c.args.streams c.args.table.now c.args.pool.now in
+pub keep-complete-requires : goal.keep-complete-requires
+keep-complete-requires c =
+    let of = state_of c.args.streams.now c.args.table.now c.args.pool.now in
     let new = fragment_of c.args.chunk c.args.user_data.now in
     let ready = c.make_room.ensures in
     let sized : length c.args.table.now ≡ 4 * frags_most = search rules in
@@ -65,12 +64,12 @@ keep-left-requires c =
 pub put_back-requires : goal.put_back-requires
 put_back-requires c =
     let here : c.args.stream < streams_most = search rules in
-    let of = state_of c.args.streams c.args.table.now c.args.pool.now in
+    let of = state_of c.args.streams.now c.args.table.now c.args.pool.now in
     let ok : Sound of = sound of (search rules) in
     let full : length of.rows ≡ frags_most = rows_long frags_most c.args.table.now (search rules) in
     let new = fragment_of c.args.chunk c.args.user_data.now in
     let ready = c.make_room.ensures in
-    let fronted : Fronted of c.args.stream (keep_ordered (own of c.args.stream) new).queue c.keep-left.result.queue (rows_of frags_most c.keep-left.new.table) c.keep-left.new.pool = kept_fronted of ok full c.args.stream here new ready c.keep-left.ensures in
+    let fronted : Fronted of c.args.stream (keep_ordered (own of c.args.stream) new).queue c.keep-complete.new.queue (rows_of frags_most c.keep-complete.new.table) c.keep-complete.new.pool = kept_fronted of ok full c.args.stream here new ready c.keep-complete.ensures in
     let others : let p = c.args.place in Others of.queues c.args.stream p.before.rows p.before.bytes p.behind.rows p.behind.bytes = search rules in
     let rest = front_fits of ok full c.args.stream here fronted others in
     record {
@@ -82,13 +81,13 @@ put_back-requires c =
 
 pub returns : goal.returns
 returns c =
-    let of = state_of c.args.streams c.args.table.now c.args.pool.now in
+    let of = state_of c.args.streams.now c.args.table.now c.args.pool.now in
     let ok : Sound of = sound of (search rules) in
     let full : length of.rows ≡ frags_most = rows_long frags_most c.args.table.now (search rules) in
     let here : c.args.stream < streams_most = search rules in
     let new = fragment_of c.args.chunk c.args.user_data.now in
     let ready = c.make_room.ensures in
-    let fronted : Fronted of c.args.stream (keep_ordered (own of c.args.stream) new).queue c.keep-left.result.queue (rows_of frags_most c.keep-left.new.table) c.keep-left.new.pool = kept_fronted of ok full c.args.stream here new ready c.keep-left.ensures in
+    let fronted : Fronted of c.args.stream (keep_ordered (own of c.args.stream) new).queue c.keep-complete.new.queue (rows_of frags_most c.keep-complete.new.table) c.keep-complete.new.pool = kept_fronted of ok full c.args.stream here new ready c.keep-complete.ensures in
     let others : let p = c.args.place in Others of.queues c.args.stream p.before.rows p.before.bytes p.behind.rows p.behind.bytes = search rules in
-    both_are (kept-told of ok full c.args.stream here new ready c.keep-left.ensures)
+    both_are (kept-told of ok full c.args.stream here new ready c.keep-complete.ensures)
     (front-is of ok full c.args.stream here fronted others c.put_back.ensures)

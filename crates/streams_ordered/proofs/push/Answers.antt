@@ -1,17 +1,18 @@
 -- `streams_ordered::push` meets its contract: what the questions find beside the others they find alone; what is not kept leaves all as it was.
-use borrow.Author.Tests.{not-true, not-false}
 use mathlib.Core.Path.{◌≡◌, ap, ◌∙◌}
-use mathlib.Core.Bool.{true, false}
+use mathlib.Core.Bool.{false}
 use Prim.Native.Nat.{◌*◌, ◌<◌}
 use borrow.Author.Rules.{rules}
 use lib.ListN.{length}
+use Rattle.std.proofs.lemmas.Result.{err_from_is_err_and}
+use Rattle.refusal.specs.Told.{number}
+use Rattle.wire_model.specs.Refusal.{none, refuse, says}
 use Rattle.table.proofs.Columns.{rows_long}
 use Rattle.reassembly_state.specs.Limits.{frags_most}
 use Rattle.streams_model.specs.Limits.{streams_most}
 use Rattle.streams_model.specs.State.{state_of}
-use Rattle.chunks.specs.Message.{flag_told}
 use Rattle.reassembly_state.specs.State as one
-use Rattle.reassembly_state.specs.Rows.{Asks}
+use Rattle.reassembly_state.specs.Rows.{Declines, Keeps}
 use Rattle.streams_model.specs.State.{laid}
 use Rattle.streams_model.specs.Among.{among_none, among, roomy_if}
 use Rattle.streams_model.proofs.Laws.{Sound, sound, bytes_bounded}
@@ -22,7 +23,7 @@ use Rattle.streams_ordered.proofs.push.Goals as goal
 pub among_front-place-requires : goal.among_front-place-requires
 among_front-place-requires c =
     let here : c.args.stream < streams_most = search rules in
-    let of = state_of c.args.streams c.args.table.now c.args.pool.now in
+    let of = state_of c.args.streams.now c.args.table.now c.args.pool.now in
     let ok : Sound of = sound of (search rules) in
     record {
       stream_lt_streams_most = here;
@@ -30,10 +31,10 @@ among_front-place-requires c =
       streams_bound_2 = bytes_bounded of ok;
     }
 
-pub ask-asked-requires : goal.ask-asked-requires
-ask-asked-requires c =
+pub ask-requires : goal.ask-requires
+ask-requires c =
     let sized : length c.args.table.now ≡ 4 * frags_most = search rules in
-    let of = state_of c.args.streams c.args.table.now c.args.pool.now in
+    let of = state_of c.args.streams.now c.args.table.now c.args.pool.now in
     let ok : Sound of = sound of (search rules) in
     let full : length of.rows ≡ frags_most = rows_long frags_most c.args.table.now (search rules) in
     let here : c.args.stream < streams_most = search rules in
@@ -45,28 +46,27 @@ ask-asked-requires c =
       table_value = safe.sums;
     }
 
-pub returns-then-not-asked : goal.returns-then-not-asked
-returns-then-not-asked c =
-    let of = state_of c.args.streams c.args.table.now c.args.pool.now in
+pub returns-in_err-set : goal.returns-in_err-set
+returns-in_err-set c =
+    let of = state_of c.args.streams.now c.args.table.now c.args.pool.now in
     let ok : Sound of = sound of (search rules) in
     let full : length of.rows ≡ frags_most = rows_long frags_most c.args.table.now (search rules) in
     let here : c.args.stream < streams_most = search rules in
     let front : c.among_front-place.result.queue ≡ among_none of.queues c.args.stream = c.among_front-place.ensures.queue_value in
-    let asks : let r = c.ask-asked.result in Asks (among of c.args.stream 0 0) c.args.room c.args.chunk (length c.args.user_data.now) (flag_told r.answer) r.keep r.at r.run = asks_front of ok full c.args.stream here front (c.ask-asked.ensures c.args.pool.now) in
-    away of ok full c.args.stream here c.args.chunk c.args.user_data.now asks ((not-true _ c.if-not-asked.true))
+    let e = err_from_is_err_and c.from_residual.result c.from_residual.ensures.1 in
+    rw (e.1, e.2) (away of ok full c.args.stream here c.args.room c.args.chunk c.args.user_data.now (asks_front of ok full c.args.stream here front (λ (t : one.State). Declines t c.args.room c.args.chunk (length c.args.user_data.now) (says (refuse (number c.in_err-set.field-0.0)) false)) (c.in_err-set.ensures c.args.pool.now)))
 
 pub keep-requires : goal.keep-requires
 keep-requires c =
-    let of = state_of c.args.streams c.args.table.now c.args.pool.now in
+    let of = state_of c.args.streams.now c.args.table.now c.args.pool.now in
     let ok : Sound of = sound of (search rules) in
     let full : length of.rows ≡ frags_most = rows_long frags_most c.args.table.now (search rules) in
     let here : c.args.stream < streams_most = search rules in
     let front : c.among_front-place.result.queue ≡ among_none of.queues c.args.stream = c.among_front-place.ensures.queue_value in
-    let asks : let r = c.ask-asked.result in Asks (among of c.args.stream 0 0) c.args.room c.args.chunk (length c.args.user_data.now) (flag_told r.answer) r.keep r.at r.run = asks_front of ok full c.args.stream here front (c.ask-asked.ensures c.args.pool.now) in
+    let keeps : Keeps (among of c.args.stream 0 0) c.args.room c.args.chunk (length c.args.user_data.now) c.in-Some.set.at c.in-Some.set.run = asks_front of ok full c.args.stream here front (λ (t : one.State). Keeps t c.args.room c.args.chunk (length c.args.user_data.now) c.in-Some.set.at c.in-Some.set.run) (rw c.in-Some.is at c.in_ok-set.ensures c.args.pool.now) in
     let roomy : roomy_if c.args.room of (length c.args.user_data.now) = search rules in
     let sized : length c.args.table.now ≡ 4 * frags_most = search rules in
-    let r = asks in
-    let room = roomy (r.with_room ((not-false _ c.if-not-asked.false))) in
+    let room = roomy keeps.with_room in
     record {
       table_len = sized;
       pool_value = search rules;
@@ -75,17 +75,26 @@ keep-requires c =
       user_data_bound = room.1;
       others = c.among_front-place.ensures.others;
       queue_value = front;
-      at_value = r.at-is;
-      run_value = r.run_is;
+      at_value = keeps.at-is;
+      run_value = keeps.run_is;
     }
 
-pub returns : goal.returns
-returns c =
-    let of = state_of c.args.streams c.args.table.now c.args.pool.now in
+pub returns-in-Some : goal.returns-in-Some
+returns-in-Some c =
+    let of = state_of c.args.streams.now c.args.table.now c.args.pool.now in
     let ok : Sound of = sound of (search rules) in
     let full : length of.rows ≡ frags_most = rows_long frags_most c.args.table.now (search rules) in
     let here : c.args.stream < streams_most = search rules in
     let front : c.among_front-place.result.queue ≡ among_none of.queues c.args.stream = c.among_front-place.ensures.queue_value in
-    let asks : let r = c.ask-asked.result in Asks (among of c.args.stream 0 0) c.args.room c.args.chunk (length c.args.user_data.now) (flag_told r.answer) r.keep r.at r.run = asks_front of ok full c.args.stream here front (c.ask-asked.ensures c.args.pool.now) in
+    let keeps : Keeps (among of c.args.stream 0 0) c.args.room c.args.chunk (length c.args.user_data.now) c.in-Some.set.at c.in-Some.set.run = asks_front of ok full c.args.stream here front (λ (t : one.State). Keeps t c.args.room c.args.chunk (length c.args.user_data.now) c.in-Some.set.at c.in-Some.set.run) (rw c.in-Some.is at c.in_ok-set.ensures c.args.pool.now) in
     c.keep.ensures
-    ∙ ap (laid of c.args.stream) (kept-is of ok full c.args.stream here c.args.chunk c.args.user_data.now asks ((not-false _ c.if-not-asked.false)))
+    ∙ ap (laid of c.args.stream) (kept-is of ok full c.args.stream here c.args.room c.args.chunk c.args.user_data.now keeps)
+
+pub returns-in-None : goal.returns-in-None
+returns-in-None c =
+    let of = state_of c.args.streams.now c.args.table.now c.args.pool.now in
+    let ok : Sound of = sound of (search rules) in
+    let full : length of.rows ≡ frags_most = rows_long frags_most c.args.table.now (search rules) in
+    let here : c.args.stream < streams_most = search rules in
+    let front : c.among_front-place.result.queue ≡ among_none of.queues c.args.stream = c.among_front-place.ensures.queue_value in
+    away of ok full c.args.stream here c.args.room c.args.chunk c.args.user_data.now (asks_front of ok full c.args.stream here front (λ (t : one.State). Declines t c.args.room c.args.chunk (length c.args.user_data.now) (says none false)) (rw c.in-None.is at c.in_ok-set.ensures c.args.pool.now))

@@ -2,4 +2,4 @@
 use Rattle.streams_parts.proofs.put_back.Goals as goal
 
 pub returns : goal.returns
-returns c = rw c.counts_alone-own.ensures at c.with.ensures
+returns c = rw c.counts_alone-own.ensures at c.put_at.ensures

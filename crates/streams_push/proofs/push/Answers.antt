@@ -9,18 +9,18 @@ use Rattle.streams_push.proofs.push.Goals as goal
 
 pub returns-then-unsound : goal.returns-then-unsound
 returns-then-unsound c =
-    let of = state_of c.args.streams c.args.table.now c.args.pool.now in
+    let of = state_of c.args.streams.now c.args.table.now c.args.pool.now in
     push-unsound of c.args.stream c.args.chunk c.args.user_data.now (sym c.unsound.ensures ∙ c.if-unsound.true)
 
 pub returns-then-number-ge-STREAMS : goal.returns-then-number-ge-STREAMS
 returns-then-number-ge-STREAMS c =
-    let of = state_of c.args.streams c.args.table.now c.args.pool.now in
+    let of = state_of c.args.streams.now c.args.table.now c.args.pool.now in
     let safe : unsound of ≡ false = sym c.unsound.ensures ∙ c.if-unsound.false in
     push_no_stream of c.args.stream c.args.chunk c.args.user_data.now safe (omega (arith, c.if-number-ge-STREAMS.true))
 
 pub to_stream-requires : goal.to_stream-requires
 to_stream-requires c =
-    let of = state_of c.args.streams c.args.table.now c.args.pool.now in
+    let of = state_of c.args.streams.now c.args.table.now c.args.pool.now in
     let safe : unsound of ≡ false = sym c.unsound.ensures ∙ c.if-unsound.false in
     record {
       table_len = search rules;
@@ -30,6 +30,6 @@ to_stream-requires c =
 
 pub returns : goal.returns
 returns c =
-    let of = state_of c.args.streams c.args.table.now c.args.pool.now in
+    let of = state_of c.args.streams.now c.args.table.now c.args.pool.now in
     let safe : unsound of ≡ false = sym c.unsound.ensures ∙ c.if-unsound.false in
     c.to_stream.ensures ∙ push_to of c.args.stream c.args.chunk c.args.user_data.now safe (omega (arith, c.if-number-ge-STREAMS.false))

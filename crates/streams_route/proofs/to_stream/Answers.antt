@@ -1,6 +1,6 @@
 -- `streams_route::to_stream` meets its contract: the chunk's stream is compared, the room is asked for by the counts, and the chunk goes by its mark U.
 use mathlib.Core.Path.{◌≡◌, refl, sym, ap, ◌∙◌}
-use mathlib.Core.Bool.{Bool, true, false}
+use mathlib.Core.Bool.{Bool, false}
 use Prim.Native.Nat.{◌*◌, ◌<◌}
 use borrow.Author.Rules.{rules}
 use lib.ListN.{length}
@@ -20,7 +20,7 @@ use Rattle.streams_route.proofs.to_stream.Goals as goal
 
 pub returns-then-chunk-own : goal.returns-then-chunk-own
 returns-then-chunk-own c =
-    let of = state_of c.args.streams c.args.table.now c.args.pool.now in
+    let of = state_of c.args.streams.now c.args.table.now c.args.pool.now in
     let safe : unsound of ≡ false = search rules in
     let ok : Sound of = sound of safe in
     let sized : length c.args.table.now ≡ 4 * frags_most = search rules in
@@ -34,7 +34,7 @@ returns-then-chunk-own c =
 pub has_room-room-requires : goal.has_room-room-requires
 has_room-room-requires c =
     let here : c.args.stream < streams_most = search rules in
-    let of = state_of c.args.streams c.args.table.now c.args.pool.now in
+    let of = state_of c.args.streams.now c.args.table.now c.args.pool.now in
     let safe : unsound of ≡ false = search rules in
     let ok : Sound of = sound of safe in
     record {
@@ -46,7 +46,7 @@ has_room-room-requires c =
 pub push-requires : goal.push-requires
 push-requires c =
     let sized : length c.args.table.now ≡ 4 * frags_most = search rules in
-    let of = state_of c.args.streams c.args.table.now c.args.pool.now in
+    let of = state_of c.args.streams.now c.args.table.now c.args.pool.now in
     let safe : unsound of ≡ false = search rules in
     let here : c.args.stream < streams_most = search rules in
     let roomy : roomy_if c.has_room-room.result of (length c.args.user_data.now) = λ e. room_fits of.queues refl c.args.stream (length c.args.user_data.now) here (sym c.has_room-room.ensures ∙ e) in
@@ -59,7 +59,7 @@ push-requires c =
 
 pub returns-then-chunk : goal.returns-then-chunk
 returns-then-chunk c =
-    let of = state_of c.args.streams c.args.table.now c.args.pool.now in
+    let of = state_of c.args.streams.now c.args.table.now c.args.pool.now in
     let safe : unsound of ≡ false = search rules in
     let ok : Sound of = sound of safe in
     let sized : length c.args.table.now ≡ 4 * frags_most = search rules in
@@ -77,7 +77,7 @@ returns-then-chunk c =
 pub push-requires-2 : goal.push-requires-2
 push-requires-2 c =
     let sized : length c.args.table.now ≡ 4 * frags_most = search rules in
-    let of = state_of c.args.streams c.args.table.now c.args.pool.now in
+    let of = state_of c.args.streams.now c.args.table.now c.args.pool.now in
     let safe : unsound of ≡ false = search rules in
     let here : c.args.stream < streams_most = search rules in
     let roomy : roomy_if c.has_room-room.result of (length c.args.user_data.now) = λ e. room_fits of.queues refl c.args.stream (length c.args.user_data.now) here (sym c.has_room-room.ensures ∙ e) in
@@ -90,7 +90,7 @@ push-requires-2 c =
 
 pub returns : goal.returns
 returns c =
-    let of = state_of c.args.streams c.args.table.now c.args.pool.now in
+    let of = state_of c.args.streams.now c.args.table.now c.args.pool.now in
     let safe : unsound of ≡ false = search rules in
     let ok : Sound of = sound of safe in
     let sized : length c.args.table.now ≡ 4 * frags_most = search rules in

@@ -19,7 +19,7 @@ use Rattle.streams_skips.proofs.skip_ordered.Goals as goal
 pub among_front-place-requires : goal.among_front-place-requires
 among_front-place-requires c =
     let here : c.args.stream < streams_most = search rules in
-    let of = state_of c.args.streams c.args.table.now c.args.pool.now in
+    let of = state_of c.args.streams.now c.args.table.now c.args.pool.now in
     let ok : Sound of = sound of (search rules) in
     record {
       stream_lt_streams_most = here;
@@ -27,10 +27,10 @@ among_front-place-requires c =
       streams_bound_2 = bytes_bounded of ok;
     }
 
-pub skip_ordered-left-requires : goal.skip_ordered-left-requires
-skip_ordered-left-requires c =
+pub skip_ordered-requires : goal.skip_ordered-requires
+skip_ordered-requires c =
     let sized : length c.args.table.now ≡ 4 * frags_most = search rules in
-    let of = state_of c.args.streams c.args.table.now c.args.pool.now in
+    let of = state_of c.args.streams.now c.args.table.now c.args.pool.now in
     let ok : Sound of = sound of (search rules) in
     let full : length of.rows ≡ frags_most = rows_long frags_most c.args.table.now sized in
     let here : c.args.stream < streams_most = search rules in
@@ -42,33 +42,33 @@ skip_ordered-left-requires c =
 
 pub close_up-requires : goal.close_up-requires
 close_up-requires c =
-    let of = state_of c.args.streams c.args.table.now c.args.pool.now in
+    let of = state_of c.args.streams.now c.args.table.now c.args.pool.now in
     let ok : Sound of = sound of (search rules) in
     let sized : length c.args.table.now ≡ 4 * frags_most = search rules in
     let full : length of.rows ≡ frags_most = rows_long frags_most c.args.table.now sized in
     let here : c.args.stream < streams_most = search rules in
     let front : c.among_front-place.result.queue ≡ among_none of.queues c.args.stream = c.among_front-place.ensures.queue_value in
-    let shrunk : Shrunk of c.args.stream (skip_ordered (own of c.args.stream) c.args.last_ssn) c.among_front-place.result.queue c.skip_ordered-left.result (rows_of frags_most c.skip_ordered-left.new.table) c.skip_ordered-left.new.pool = ordered_shrunk of ok full c.args.stream here front c.args.last_ssn c.skip_ordered-left.ensures in
+    let shrunk : Shrunk of c.args.stream (skip_ordered (own of c.args.stream) c.args.last_ssn) c.among_front-place.result.queue c.skip_ordered.new.queue (rows_of frags_most c.skip_ordered.new.table) c.skip_ordered.new.pool = ordered_shrunk of ok full c.args.stream here front c.args.last_ssn c.skip_ordered.ensures in
     let less = no_more of ok full c.args.stream here front shrunk in
     let whole = whole_fits of ok full c.args.stream here front c.among_front-place.ensures.others in
     record {
-      table_len = omega (arith, c.skip_ordered-left.auto, sized);
+      table_len = omega (arith, c.skip_ordered.auto, sized);
       left_bound = less.0;
       n_bytes_bound = less.1;
       rows_bound = whole.0;
-      bytes_in_bounds = omega (arith, c.skip_ordered-left.auto, whole.1);
+      bytes_in_bounds = omega (arith, c.skip_ordered.auto, whole.1);
     }
 
 pub put_back-requires : goal.put_back-requires
 put_back-requires c =
     let here : c.args.stream < streams_most = search rules in
-    let of = state_of c.args.streams c.args.table.now c.args.pool.now in
+    let of = state_of c.args.streams.now c.args.table.now c.args.pool.now in
     let ok : Sound of = sound of (search rules) in
     let sized : length c.args.table.now ≡ 4 * frags_most = search rules in
     let full : length of.rows ≡ frags_most = rows_long frags_most c.args.table.now sized in
     let front : c.among_front-place.result.queue ≡ among_none of.queues c.args.stream = c.among_front-place.ensures.queue_value in
-    let shrunk : Shrunk of c.args.stream (skip_ordered (own of c.args.stream) c.args.last_ssn) c.among_front-place.result.queue c.skip_ordered-left.result (rows_of frags_most c.skip_ordered-left.new.table) c.skip_ordered-left.new.pool = ordered_shrunk of ok full c.args.stream here front c.args.last_ssn c.skip_ordered-left.ensures in
-    let fronted : Fronted of c.args.stream (skip_ordered (own of c.args.stream) c.args.last_ssn) c.skip_ordered-left.result (rows_of frags_most c.close_up.new.table) c.close_up.new.pool = closed of ok full c.args.stream here front shrunk c.among_front-place.ensures.others c.close_up.ensures.table_after c.close_up.ensures.pool_after in
+    let shrunk : Shrunk of c.args.stream (skip_ordered (own of c.args.stream) c.args.last_ssn) c.among_front-place.result.queue c.skip_ordered.new.queue (rows_of frags_most c.skip_ordered.new.table) c.skip_ordered.new.pool = ordered_shrunk of ok full c.args.stream here front c.args.last_ssn c.skip_ordered.ensures in
+    let fronted : Fronted of c.args.stream (skip_ordered (own of c.args.stream) c.args.last_ssn) c.skip_ordered.new.queue (rows_of frags_most c.close_up.new.table) c.close_up.new.pool = closed of ok full c.args.stream here front shrunk c.among_front-place.ensures.others c.close_up.ensures.table_after c.close_up.ensures.pool_after in
     let rest = front_fits of ok full c.args.stream here fronted c.among_front-place.ensures.others in
     record {
       stream_lt_streams_most = here;
@@ -79,12 +79,12 @@ put_back-requires c =
 
 pub returns : goal.returns
 returns c =
-    let of = state_of c.args.streams c.args.table.now c.args.pool.now in
+    let of = state_of c.args.streams.now c.args.table.now c.args.pool.now in
     let ok : Sound of = sound of (search rules) in
     let sized : length c.args.table.now ≡ 4 * frags_most = search rules in
     let full : length of.rows ≡ frags_most = rows_long frags_most c.args.table.now sized in
     let here : c.args.stream < streams_most = search rules in
     let front : c.among_front-place.result.queue ≡ among_none of.queues c.args.stream = c.among_front-place.ensures.queue_value in
-    let shrunk : Shrunk of c.args.stream (skip_ordered (own of c.args.stream) c.args.last_ssn) c.among_front-place.result.queue c.skip_ordered-left.result (rows_of frags_most c.skip_ordered-left.new.table) c.skip_ordered-left.new.pool = ordered_shrunk of ok full c.args.stream here front c.args.last_ssn c.skip_ordered-left.ensures in
-    let fronted : Fronted of c.args.stream (skip_ordered (own of c.args.stream) c.args.last_ssn) c.skip_ordered-left.result (rows_of frags_most c.close_up.new.table) c.close_up.new.pool = closed of ok full c.args.stream here front shrunk c.among_front-place.ensures.others c.close_up.ensures.table_after c.close_up.ensures.pool_after in
+    let shrunk : Shrunk of c.args.stream (skip_ordered (own of c.args.stream) c.args.last_ssn) c.among_front-place.result.queue c.skip_ordered.new.queue (rows_of frags_most c.skip_ordered.new.table) c.skip_ordered.new.pool = ordered_shrunk of ok full c.args.stream here front c.args.last_ssn c.skip_ordered.ensures in
+    let fronted : Fronted of c.args.stream (skip_ordered (own of c.args.stream) c.args.last_ssn) c.skip_ordered.new.queue (rows_of frags_most c.close_up.new.table) c.close_up.new.pool = closed of ok full c.args.stream here front shrunk c.among_front-place.ensures.others c.close_up.ensures.table_after c.close_up.ensures.pool_after in
     front-is of ok full c.args.stream here fronted c.among_front-place.ensures.others c.put_back.ensures

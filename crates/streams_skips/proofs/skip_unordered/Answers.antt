@@ -17,7 +17,7 @@ use Rattle.streams_skips.proofs.skip_unordered.Goals as goal
 pub among_all-place-requires : goal.among_all-place-requires
 among_all-place-requires c =
     let here : c.args.stream < streams_most = search rules in
-    let of = state_of c.args.streams c.args.table.now c.args.pool.now in
+    let of = state_of c.args.streams.now c.args.table.now c.args.pool.now in
     let ok : Sound of = sound of (search rules) in
     record {
       stream_lt_streams_most = here;
@@ -25,10 +25,10 @@ among_all-place-requires c =
       streams_bound_2 = bytes_bounded of ok;
     }
 
-pub skip_unordered-left-requires : goal.skip_unordered-left-requires
-skip_unordered-left-requires c =
+pub skip_unordered-requires : goal.skip_unordered-requires
+skip_unordered-requires c =
     let sized : length c.args.table.now ≡ 4 * frags_most = search rules in
-    let of = state_of c.args.streams c.args.table.now c.args.pool.now in
+    let of = state_of c.args.streams.now c.args.table.now c.args.pool.now in
     let ok : Sound of = sound of (search rules) in
     let full : length of.rows ≡ frags_most = rows_long frags_most c.args.table.now sized in
     let here : c.args.stream < streams_most = search rules in
@@ -40,11 +40,11 @@ skip_unordered-left-requires c =
 pub put_back-requires : goal.put_back-requires
 put_back-requires c =
     let here : c.args.stream < streams_most = search rules in
-    let of = state_of c.args.streams c.args.table.now c.args.pool.now in
+    let of = state_of c.args.streams.now c.args.table.now c.args.pool.now in
     let ok : Sound of = sound of (search rules) in
     let sized : length c.args.table.now ≡ 4 * frags_most = search rules in
     let full : length of.rows ≡ frags_most = rows_long frags_most c.args.table.now sized in
-    let left : Left of c.args.stream (skip_unordered (own of c.args.stream) c.args.new_cumulative_tsn) c.skip_unordered-left.result (rows_of frags_most c.skip_unordered-left.new.table) c.skip_unordered-left.new.pool = unordered-left of ok full c.args.stream here c.among_all-place.ensures.queue_value c.args.new_cumulative_tsn c.skip_unordered-left.ensures in
+    let left : Left of c.args.stream (skip_unordered (own of c.args.stream) c.args.new_cumulative_tsn) c.skip_unordered.new.queue (rows_of frags_most c.skip_unordered.new.table) c.skip_unordered.new.pool = unordered-left of ok full c.args.stream here c.among_all-place.ensures.queue_value c.args.new_cumulative_tsn c.skip_unordered.ensures in
     let rest = left_fits of ok full c.args.stream here left c.among_all-place.ensures.others in
     record {
       stream_lt_streams_most = here;
@@ -55,10 +55,10 @@ put_back-requires c =
 
 pub returns : goal.returns
 returns c =
-    let of = state_of c.args.streams c.args.table.now c.args.pool.now in
+    let of = state_of c.args.streams.now c.args.table.now c.args.pool.now in
     let ok : Sound of = sound of (search rules) in
     let sized : length c.args.table.now ≡ 4 * frags_most = search rules in
     let full : length of.rows ≡ frags_most = rows_long frags_most c.args.table.now sized in
     let here : c.args.stream < streams_most = search rules in
-    let left : Left of c.args.stream (skip_unordered (own of c.args.stream) c.args.new_cumulative_tsn) c.skip_unordered-left.result (rows_of frags_most c.skip_unordered-left.new.table) c.skip_unordered-left.new.pool = unordered-left of ok full c.args.stream here c.among_all-place.ensures.queue_value c.args.new_cumulative_tsn c.skip_unordered-left.ensures in
+    let left : Left of c.args.stream (skip_unordered (own of c.args.stream) c.args.new_cumulative_tsn) c.skip_unordered.new.queue (rows_of frags_most c.skip_unordered.new.table) c.skip_unordered.new.pool = unordered-left of ok full c.args.stream here c.among_all-place.ensures.queue_value c.args.new_cumulative_tsn c.skip_unordered.ensures in
     left_is of ok full c.args.stream here left c.among_all-place.ensures.others c.put_back.ensures

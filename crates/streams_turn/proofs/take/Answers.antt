@@ -1,6 +1,6 @@
 -- `streams_turn::take` meets its contract: where there is a message in turn it is taken.
 use mathlib.Core.Path.{◌≡◌, sym, ◌∙◌}
-use mathlib.Core.Bool.{true, false}
+use mathlib.Core.Bool.{false}
 use Prim.Native.Nat.{◌+◌, ◌-◌, ◌*◌, ◌<◌}
 use native.Mathlib.Omega.{arith}
 use borrow.Author.Rules.{rules}
@@ -17,7 +17,7 @@ use Rattle.streams_turn.proofs.take.Goals as goal
 pub among_front-place-requires : goal.among_front-place-requires
 among_front-place-requires c =
     let here : c.args.stream < streams_most = search rules in
-    let of = state_of c.args.streams c.args.table.now c.args.pool.now in
+    let of = state_of c.args.streams.now c.args.table.now c.args.pool.now in
     let safe : unsound of ≡ false = search rules in
     let ok : Sound of = sound of safe in
     record {
@@ -30,7 +30,7 @@ pub in_turn-turn-requires : goal.in_turn-turn-requires
 in_turn-turn-requires c =
     let sized : length c.args.table.now ≡ 4 * frags_most = search rules in
     let here : c.args.stream < streams_most = search rules in
-    let of = state_of c.args.streams c.args.table.now c.args.pool.now in
+    let of = state_of c.args.streams.now c.args.table.now c.args.pool.now in
     let safe : unsound of ≡ false = search rules in
     let ok : Sound of = sound of safe in
     record {
@@ -43,14 +43,14 @@ in_turn-turn-requires c =
 
 pub overflow_sub-k : goal.overflow_sub-k
 overflow_sub-k c =
-    let of = state_of c.args.streams c.args.table.now c.args.pool.now in
+    let of = state_of c.args.streams.now c.args.table.now c.args.pool.now in
     let safe : unsound of ≡ false = search rules in
     let turned : Turned of c.args.stream c.in_turn-turn.result.from c.in_turn-turn.result.to = c.in_turn-turn.ensures c.args.pool.now safe in
     turned.upward
 
 pub returns-then-k-eq0 : goal.returns-then-k-eq0
 returns-then-k-eq0 c =
-    let of = state_of c.args.streams c.args.table.now c.args.pool.now in
+    let of = state_of c.args.streams.now c.args.table.now c.args.pool.now in
     let safe : unsound of ≡ false = search rules in
     let ok : Sound of = sound of safe in
     let sized : length c.args.table.now ≡ 4 * frags_most = search rules in
@@ -61,7 +61,7 @@ returns-then-k-eq0 c =
 
 pub take_run-requires : goal.take_run-requires
 take_run-requires c =
-    let of = state_of c.args.streams c.args.table.now c.args.pool.now in
+    let of = state_of c.args.streams.now c.args.table.now c.args.pool.now in
     let safe : unsound of ≡ false = search rules in
     let turned : Turned of c.args.stream c.in_turn-turn.result.from c.in_turn-turn.result.to = c.in_turn-turn.ensures c.args.pool.now safe in
     let sized : length c.args.table.now ≡ 4 * frags_most = search rules in

@@ -1,5 +1,5 @@
 -- `streams_turn::take_run` meets its contract: the message goes out of all that is held, and the stream's counts are those without it.
-use mathlib.Core.Path.{◌≡◌, sym, ap, ◌∙◌}
+use mathlib.Core.Path.{◌≡◌, refl, sym, ap, ◌∙◌}
 use mathlib.Core.Bool.{false}
 use Prim.Native.Nat.{ℕ, ◌+◌, ◌-◌, ◌*◌, ◌<◌, ◌≤◌}
 use native.Mathlib.Omega.{arith}
@@ -15,22 +15,25 @@ use Rattle.streams_model.specs.Among.{Others, among_none, mine}
 use lib.Dec.{eqb}
 use lib.ListN.{take}
 use Rattle.fragments.proofs.Pool.{B}
-use Rattle.reassembly_state.specs.Model.{turn}
-use Rattle.reassembly_state.specs.Answers.{took_told}
+use Rattle.std.proofs.lemmas.Result.{err_from_is_err_and}
+use Rattle.refusal.specs.Told.{number}
+use Rattle.wire_model.specs.Refusal.{none, refuse, says}
+use Rattle.reassembly_state.specs.Model.{no_message, turn}
+use Rattle.reassembly_state.specs.Answers.{message_held}
 use Rattle.streams_model.proofs.Laws.{Sound, sound, sums-total, bytes_bounded}
 use Rattle.streams_model.proofs.Among.{rows_split, bytes-split}
 use Rattle.streams_turn.specs.Turned.{Turned}
 use Rattle.table.specs.Rows.{rows_of}
 use Rattle.fragments.specs.Pool.{cut}
-use Rattle.reassembly_state.specs.Rows.{out, taken_out}
+use Rattle.reassembly_state.specs.Rows.{out, taken_out, without_message}
 use Rattle.streams_model.specs.State.{fragments}
-use Rattle.streams_turn.proofs.Asked.{fits_own}
-use Rattle.streams_turn.proofs.Takes.{run_within, message_fits, settled}
+use Rattle.streams_turn.proofs.Asked.{held_comes, fits_own}
+use Rattle.streams_turn.proofs.Takes.{run_within, message_fits, comes_not, comes_is}
 use Rattle.streams_turn.proofs.take_run.Goals as goal
 
 pub overflow_add-held : goal.overflow_add-held
 overflow_add-held c =
-    let of = state_of c.args.streams c.args.table.now c.args.pool.now in
+    let of = state_of c.args.streams.now c.args.table.now c.args.pool.now in
     let front : c.args.place.queue ≡ among_none of.queues c.args.stream = search rules in
     let others : let p = c.args.place in Others of.queues c.args.stream p.before.rows p.before.bytes p.behind.rows p.behind.bytes = search rules in
     let safe : unsound of ≡ false = search rules in
@@ -43,7 +46,7 @@ overflow_add-held c =
 
 pub overflow_add-held-2 : goal.overflow_add-held-2
 overflow_add-held-2 c =
-    let of = state_of c.args.streams c.args.table.now c.args.pool.now in
+    let of = state_of c.args.streams.now c.args.table.now c.args.pool.now in
     let front : c.args.place.queue ≡ among_none of.queues c.args.stream = search rules in
     let others : let p = c.args.place in Others of.queues c.args.stream p.before.rows p.before.bytes p.behind.rows p.behind.bytes = search rules in
     let safe : unsound of ≡ false = search rules in
@@ -56,7 +59,7 @@ overflow_add-held-2 c =
 
 pub overflow_add-held-3 : goal.overflow_add-held-3
 overflow_add-held-3 c =
-    let of = state_of c.args.streams c.args.table.now c.args.pool.now in
+    let of = state_of c.args.streams.now c.args.table.now c.args.pool.now in
     let front : c.args.place.queue ≡ among_none of.queues c.args.stream = search rules in
     let others : let p = c.args.place in Others of.queues c.args.stream p.before.rows p.before.bytes p.behind.rows p.behind.bytes = search rules in
     let safe : unsound of ≡ false = search rules in
@@ -69,7 +72,7 @@ overflow_add-held-3 c =
 
 pub overflow_add-bytes : goal.overflow_add-bytes
 overflow_add-bytes c =
-    let of = state_of c.args.streams c.args.table.now c.args.pool.now in
+    let of = state_of c.args.streams.now c.args.table.now c.args.pool.now in
     let front : c.args.place.queue ≡ among_none of.queues c.args.stream = search rules in
     let others : let p = c.args.place in Others of.queues c.args.stream p.before.rows p.before.bytes p.behind.rows p.behind.bytes = search rules in
     let safe : unsound of ≡ false = search rules in
@@ -83,7 +86,7 @@ overflow_add-bytes c =
 pub sum_long-off-requires : goal.sum_long-off-requires
 sum_long-off-requires c =
     let sized : length c.args.table.now ≡ 4 * frags_most = search rules in
-    let of = state_of c.args.streams c.args.table.now c.args.pool.now in
+    let of = state_of c.args.streams.now c.args.table.now c.args.pool.now in
     let turned : Turned of c.args.stream c.args.from (c.args.from + c.args.k) = search rules in
     let many : c.args.k ≡ length (turn (own of c.args.stream)).frags = let e : c.args.from + c.args.k - c.args.from ≡ c.args.k = omega arith in rw e at turned.run_is in
     let safe : unsound of ≡ false = search rules in
@@ -97,9 +100,9 @@ sum_long-off-requires c =
       n_bound = omega (arith, within, ok.few);
     }
 
-pub take_among-left-requires : goal.take_among-left-requires
-take_among-left-requires c =
-    let of = state_of c.args.streams c.args.table.now c.args.pool.now in
+pub take_among-requires : goal.take_among-requires
+take_among-requires c =
+    let of = state_of c.args.streams.now c.args.table.now c.args.pool.now in
     let front : c.args.place.queue ≡ among_none of.queues c.args.stream = search rules in
     let others : let p = c.args.place in Others of.queues c.args.stream p.before.rows p.before.bytes p.behind.rows p.behind.bytes = search rules in
     let safe : unsound of ≡ false = search rules in
@@ -126,14 +129,14 @@ take_among-left-requires c =
       off_value = c.sum_long-off.ensures;
     }
 
-pub settle-requires : goal.settle-requires
-settle-requires c =
-    let here : c.args.stream < streams_most = search rules in
-    let of = state_of c.args.streams c.args.table.now c.args.pool.now in
+pub returns-in_err-hand : goal.returns-in_err-hand
+returns-in_err-hand c =
+    let of = state_of c.args.streams.now c.args.table.now c.args.pool.now in
     let safe : unsound of ≡ false = search rules in
     let ok : Sound of = sound of safe in
     let sized : length c.args.table.now ≡ 4 * frags_most = search rules in
     let full : length of.rows ≡ frags_most = rows_long frags_most c.args.table.now sized in
+    let here : c.args.stream < streams_most = search rules in
     let turned : Turned of c.args.stream c.args.from (c.args.from + c.args.k) = search rules in
     let many : c.args.k ≡ length (turn (own of c.args.stream)).frags = let e : c.args.from + c.args.k - c.args.from ≡ c.args.k = omega arith in rw e at turned.run_is in
     let some : 0 < c.args.k = search rules in
@@ -142,15 +145,37 @@ settle-requires c =
     let front : c.args.place.queue ≡ among_none of.queues c.args.stream = search rules in
     let others : let p = c.args.place in Others of.queues c.args.stream p.before.rows p.before.bytes p.behind.rows p.behind.bytes = search rules in
     let all-rows : count c.args.place.queue + c.args.place.behind.rows ≡ rows_held of.queues = let e = ap count front in omega (arith, e, others.rows_behind_is, rows_split of ok full c.args.stream here) in
-    let taken_out_lem : let r = c.take_among-left.result in out (took_told r.answer) r.k r.size (rows_of frags_most c.take_among-left.new.table) c.take_among-left.new.pool c.take_among-left.new.buffer ≡ taken_out (eqb c.at-own.result.finished 0) c.args.from c.args.k (fragments of) of.rows of.pool c.args.buffer.now = c.take_among-left.ensures ∙ ap (λ (n : ℕ). taken_out (eqb c.at-own.result.finished 0) c.args.from c.args.k (cut (take n of.rows) of.pool) of.rows of.pool c.args.buffer.now) all-rows in
+    let taken_out_lem : out (says (refuse (number c.in_err-hand.field-0.0)) no_message) 0 0 (rows_of frags_most c.take_among.new.table) c.take_among.new.pool c.take_among.new.buffer ≡ taken_out (eqb c.at-own.result.finished 0) c.args.from c.args.k (fragments of) of.rows of.pool c.args.buffer.now = c.in_err-hand.ensures ∙ ap (λ (n : ℕ). taken_out (eqb c.at-own.result.finished 0) c.args.from c.args.k (cut (take n of.rows) of.pool) of.rows of.pool c.args.buffer.now) all-rows in
+    let e = err_from_is_err_and c.from_residual.result c.from_residual.ensures.1 in
+    rw (e.1, e.2) (comes_not of ok full c.args.stream here c.args.buffer.now more turned.from_is many kind taken_out_lem refl)
+
+pub without-requires : goal.without-requires
+without-requires c =
+    let of = state_of c.args.streams.now c.args.table.now c.args.pool.now in
+    let safe : unsound of ≡ false = search rules in
+    let ok : Sound of = sound of safe in
+    let sized : length c.args.table.now ≡ 4 * frags_most = search rules in
+    let full : length of.rows ≡ frags_most = rows_long frags_most c.args.table.now sized in
+    let here : c.args.stream < streams_most = search rules in
+    let turned : Turned of c.args.stream c.args.from (c.args.from + c.args.k) = search rules in
+    let many : c.args.k ≡ length (turn (own of c.args.stream)).frags = let e : c.args.from + c.args.k - c.args.from ≡ c.args.k = omega arith in rw e at turned.run_is in
+    let some : 0 < c.args.k = search rules in
+    let more : 0 < length (turn (own of c.args.stream)).frags = omega (arith, many, some) in
+    let kind : eqb c.at-own.result.finished 0 ≡ eqb (mine of c.args.stream).finished 0 = ap (λ (q : Counts). eqb q.finished 0) c.at-own.ensures in
+    let front : c.args.place.queue ≡ among_none of.queues c.args.stream = search rules in
+    let others : let p = c.args.place in Others of.queues c.args.stream p.before.rows p.before.bytes p.behind.rows p.behind.bytes = search rules in
+    let all-rows : count c.args.place.queue + c.args.place.behind.rows ≡ rows_held of.queues = let e = ap count front in omega (arith, e, others.rows_behind_is, rows_split of ok full c.args.stream here) in
+    let taken_out_lem : out (says none (message_held c.in_ok-hand.hand)) c.args.k c.in_ok-hand.hand.size (rows_of frags_most c.take_among.new.table) c.take_among.new.pool c.take_among.new.buffer ≡ taken_out (eqb c.at-own.result.finished 0) c.args.from c.args.k (fragments of) of.rows of.pool c.args.buffer.now = c.in_ok-hand.ensures ∙ ap (λ (n : ℕ). taken_out (eqb c.at-own.result.finished 0) c.args.from c.args.k (cut (take n of.rows) of.pool) of.rows of.pool c.args.buffer.now) all-rows in
+    let fits = fits_own c.at-own.ensures (message_fits of ok full c.args.stream here c.args.buffer.now more turned.from_is many kind taken_out_lem (held_comes c.in_ok-hand.hand)) in
     record {
-      stream_lt_streams_most = here;
-      size_bound = λ e. fits_own c.at-own.ensures (message_fits of ok full c.args.stream here c.args.buffer.now more turned.from_is many kind taken_out_lem e);
+      bytes_bound = fits.0;
+      k_bound = fits.1;
     }
 
 pub returns : goal.returns
+unfolding message_held
 returns c =
-    let of = state_of c.args.streams c.args.table.now c.args.pool.now in
+    let of = state_of c.args.streams.now c.args.table.now c.args.pool.now in
     let safe : unsound of ≡ false = search rules in
     let ok : Sound of = sound of safe in
     let sized : length c.args.table.now ≡ 4 * frags_most = search rules in
@@ -164,5 +189,5 @@ returns c =
     let front : c.args.place.queue ≡ among_none of.queues c.args.stream = search rules in
     let others : let p = c.args.place in Others of.queues c.args.stream p.before.rows p.before.bytes p.behind.rows p.behind.bytes = search rules in
     let all-rows : count c.args.place.queue + c.args.place.behind.rows ≡ rows_held of.queues = let e = ap count front in omega (arith, e, others.rows_behind_is, rows_split of ok full c.args.stream here) in
-    let taken_out_lem : let r = c.take_among-left.result in out (took_told r.answer) r.k r.size (rows_of frags_most c.take_among-left.new.table) c.take_among-left.new.pool c.take_among-left.new.buffer ≡ taken_out (eqb c.at-own.result.finished 0) c.args.from c.args.k (fragments of) of.rows of.pool c.args.buffer.now = c.take_among-left.ensures ∙ ap (λ (n : ℕ). taken_out (eqb c.at-own.result.finished 0) c.args.from c.args.k (cut (take n of.rows) of.pool) of.rows of.pool c.args.buffer.now) all-rows in
-    settled of ok full c.args.stream here c.args.buffer.now more turned.from_is many kind taken_out_lem c.settle.ensures.answer_value c.at-own.ensures c.settle.ensures.streams_value
+    let taken_out_lem : out (says none (message_held c.in_ok-hand.hand)) c.args.k c.in_ok-hand.hand.size (rows_of frags_most c.take_among.new.table) c.take_among.new.pool c.take_among.new.buffer ≡ taken_out (eqb c.at-own.result.finished 0) c.args.from c.args.k (fragments of) of.rows of.pool c.args.buffer.now = c.in_ok-hand.ensures ∙ ap (λ (n : ℕ). taken_out (eqb c.at-own.result.finished 0) c.args.from c.args.k (cut (take n of.rows) of.pool) of.rows of.pool c.args.buffer.now) all-rows in
+    comes_is of ok full c.args.stream here c.args.buffer.now more turned.from_is many kind taken_out_lem (held_comes c.in_ok-hand.hand) (c.without.ensures ∙ ap (λ (q : Counts). without_message q c.args.k c.in_ok-hand.hand.size c.in_ok-hand.hand.ssn) c.at-own.ensures) c.put_at.ensures

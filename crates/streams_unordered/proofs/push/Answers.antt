@@ -23,7 +23,7 @@ both e f = rw (e, f)
 pub among_all-among-requires : goal.among_all-among-requires
 among_all-among-requires c =
     let here : c.args.stream < streams_most = search rules in
-    let of = state_of c.args.streams c.args.table.now c.args.pool.now in
+    let of = state_of c.args.streams.now c.args.table.now c.args.pool.now in
     let ok : Sound of = sound of (search rules) in
     record {
       stream_lt_streams_most = here;
@@ -31,9 +31,9 @@ among_all-among-requires c =
       streams_bound_2 = bytes_bounded of ok;
     }
 
-pub push-left-requires : goal.push-left-requires
-push-left-requires c =
-    let of = state_of c.args.streams c.args.table.now c.args.pool.now in
+pub push-answer-requires : goal.push-answer-requires
+push-answer-requires c =
+    let of = state_of c.args.streams.now c.args.table.now c.args.pool.now in
     let ok : Sound of = sound of (search rules) in
     let full : length of.rows ≡ frags_most = rows_long frags_most c.args.table.now (search rules) in
     let here : c.args.stream < streams_most = search rules in
@@ -47,11 +47,11 @@ push-left-requires c =
 pub put_back-requires : goal.put_back-requires
 put_back-requires c =
     let here : c.args.stream < streams_most = search rules in
-    let of = state_of c.args.streams c.args.table.now c.args.pool.now in
+    let of = state_of c.args.streams.now c.args.table.now c.args.pool.now in
     let ok : Sound of = sound of (search rules) in
     let full : length of.rows ≡ frags_most = rows_long frags_most c.args.table.now (search rules) in
     let new = fragment_of c.args.chunk c.args.user_data.now in
-    let left : Left of c.args.stream (push_unordered c.args.room (own of c.args.stream) new).queue c.push-left.result.queue (rows_of frags_most c.push-left.new.table) c.push-left.new.pool = unordered-left of ok full c.args.stream here c.among_all-among.ensures.queue_value c.args.room new c.push-left.ensures in
+    let left : Left of c.args.stream (push_unordered c.args.room (own of c.args.stream) new).queue c.push-answer.new.queue (rows_of frags_most c.push-answer.new.table) c.push-answer.new.pool = unordered-left of ok full c.args.stream here c.among_all-among.ensures.queue_value c.args.room new c.push-answer.ensures in
     let rest = left_fits of ok full c.args.stream here left c.among_all-among.ensures.others in
     record {
       stream_lt_streams_most = here;
@@ -62,12 +62,12 @@ put_back-requires c =
 
 pub returns : goal.returns
 returns c =
-    let of = state_of c.args.streams c.args.table.now c.args.pool.now in
+    let of = state_of c.args.streams.now c.args.table.now c.args.pool.now in
     let ok : Sound of = sound of (search rules) in
     let full : length of.rows ≡ frags_most = rows_long frags_most c.args.table.now (search rules) in
     let here : c.args.stream < streams_most = search rules in
     let new = fragment_of c.args.chunk c.args.user_data.now in
-    let left : Left of c.args.stream (push_unordered c.args.room (own of c.args.stream) new).queue c.push-left.result.queue (rows_of frags_most c.push-left.new.table) c.push-left.new.pool = unordered-left of ok full c.args.stream here c.among_all-among.ensures.queue_value c.args.room new c.push-left.ensures in
-    let told = unordered-told of ok full c.args.stream here c.among_all-among.ensures.queue_value c.args.room new c.push-left.ensures in
+    let left : Left of c.args.stream (push_unordered c.args.room (own of c.args.stream) new).queue c.push-answer.new.queue (rows_of frags_most c.push-answer.new.table) c.push-answer.new.pool = unordered-left of ok full c.args.stream here c.among_all-among.ensures.queue_value c.args.room new c.push-answer.ensures in
+    let told = unordered-told of ok full c.args.stream here c.among_all-among.ensures.queue_value c.args.room new c.push-answer.ensures in
     let state = left_is of ok full c.args.stream here left c.among_all-among.ensures.others c.put_back.ensures in
     both told state

@@ -7,4 +7,4 @@ pub returns : goal.returns
 returns c =
     let a = c.args in
     rows-gone a.size a.table.now c.requires.table_len a.n a.at a.k (omega (arith, c.requires)) (omega (arith, c.requires))
-    c.close_words.ensures c.close_words-2.ensures c.close_words-3.ensures c.close_words-4.ensures
+    c.close.ensures c.close-2.ensures c.close-3.ensures c.close-4.ensures

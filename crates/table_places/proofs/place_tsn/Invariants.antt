@@ -1,6 +1,6 @@
 -- `table_places::place_tsn` meets its contract: the last row is before the TSN, or what is passed from the end on is not, so that the place is among the rest.
 use mathlib.Core.Path.{◌≡◌}
-use Prim.Native.Nat.{◌-◌, ◌≤◌}
+use Prim.Native.Nat.{◌≤◌}
 use lib.ListN.{take, drop}
 use Rattle.table.specs.Rows.{rows_of, up_to_last, tsn_before}
 use Rattle.table_places.proofs.place_tsn.Given as goal

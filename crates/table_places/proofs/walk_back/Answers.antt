@@ -1,5 +1,5 @@
 -- `table_places::walk_back` meets its contract: what is passed from the end on is not before the TSN, so the place is among the rest.
-use mathlib.Core.Path.{◌≡◌, refl, sym, ◌∙◌}
+use mathlib.Core.Path.{◌≡◌, sym, ◌∙◌}
 use mathlib.Core.Bool.{true, false}
 use Prim.Native.Nat.{◌+◌, ◌-◌}
 use native.Mathlib.Omega.{arith}
@@ -9,32 +9,30 @@ use Rattle.table.proofs.Columns.{rows_long}
 use Rattle.table.proofs.Scans.{last_end, last-passed, last_none, tsn-at}
 use Rattle.table_places.proofs.walk_back.Goals as goal
 
-pub loop-place-init : goal.loop-place-init
-loop-place-init c = (omega arith, refl, refl)
-
 pub returns-then-sna32lt : goal.returns-then-sna32lt
 returns-then-sna32lt c =
     let a = c.args in
     let rs = rows_of a.size a.table.now in
-    let k = c.loop-place.place - 1 in
+    let k = c.loop-at.at - 1 in
     let e = rows_long a.size a.table.now c.requires.table_len in
     let w = tsn-at a.size a.table.now c.requires.table_len (a.from + k) (omega arith) {q = a.size + a.from + k} (omega arith) in
     let b : tsn_before a.tsn (get_or rs (a.from + k) blank) ≡ true = rw (← w) (sym c.sna32lt.ensures ∙ c.if-sna32lt.true) in
-    sym (c.loop-place.invariant.2 ∙ last_end (tsn_before a.tsn) rs a.from k c.loop-place.place (omega arith) (omega arith) b)
+    let s : k + 1 ≡ c.loop-at.at = omega arith in
+    s ∙ sym (c.loop-at.invariant ∙ last_end (tsn_before a.tsn) rs a.from k c.loop-at.at (omega arith) (omega arith) b)
 
-pub loop-place-preserved : goal.loop-place-preserved
-loop-place-preserved c =
+pub loop-at-preserved : goal.loop-at-preserved
+loop-at-preserved c =
     let a = c.args in
     let rs = rows_of a.size a.table.now in
-    let k = c.loop-place.place - 1 in
+    let k = c.loop-at.at - 1 in
     let e = rows_long a.size a.table.now c.requires.table_len in
     let w = tsn-at a.size a.table.now c.requires.table_len (a.from + k) (omega arith) {q = a.size + a.from + k} (omega arith) in
     let b : tsn_before a.tsn (get_or rs (a.from + k) blank) ≡ false = rw (← w) (sym c.sna32lt.ensures ∙ c.if-sna32lt.false) in
-    (omega arith, refl, c.loop-place.invariant.2 ∙ last-passed (tsn_before a.tsn) rs a.from k c.loop-place.place (omega arith) (omega arith) b)
+    c.loop-at.invariant ∙ last-passed (tsn_before a.tsn) rs a.from k c.loop-at.at (omega arith) (omega arith) b
 
 pub returns : goal.returns
 returns c =
     let a = c.args in
-    let e : c.loop-place.place ≡ 0 = omega arith in
-    let i = rw e at c.loop-place.invariant.2 in
+    let e : c.loop-at.at ≡ 0 = omega arith in
+    let i = rw e at c.loop-at.invariant in
     sym (i ∙ last_none (tsn_before a.tsn))

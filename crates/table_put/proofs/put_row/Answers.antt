@@ -7,4 +7,4 @@ pub returns : goal.returns
 returns c =
     let a = c.args in
     rows-put a.size a.table.now c.requires.table_len a.n a.at a.new (omega (arith, c.requires)) (omega (arith, c.requires))
-    c.put_word.ensures c.put_word-2.ensures c.put_word-3.ensures c.put_word-4.ensures
+    c.put_one.ensures c.put_one-2.ensures c.put_one-3.ensures c.put_one-4.ensures

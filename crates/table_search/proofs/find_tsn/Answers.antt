@@ -1,34 +1,15 @@
--- `table_search::find_tsn` meets its contract: the rows ahead are those passed and those ahead in the rest.
-use mathlib.Core.Path.{refl, sym, ◌∙◌}
-use Prim.Native.Nat.{◌+◌, ◌-◌}
-use native.Mathlib.Omega.{arith}
-use borrow.Author.Tests.{eq-eqb, ne_eqb}
-use Rattle.table.specs.Rows.{rows_of, has_tsn}
-use Rattle.table.proofs.Columns.{rows_long}
-use Rattle.table.proofs.Scans.{sought_none, sought_here, sought_turn, sought_all, tsn-at}
+-- `table_search::find_tsn` meets its contract: the words passed are the TSNs of the rows.
+use Rattle.std.proofs.Common.{rules, ◌+◌, ◌-◌, take, drop, nat_eq}
+use Rattle.std.proofs.lemmas.Iterator.{YieldsList-from_slice}
+use Rattle.std.proofs.lemmas.Iterator.Search.{position_from_yields_List}
+use borrow.Author.Tests.{tests}
+use Rattle.table.proofs.Words.{those_long, tsns_at, ahead-found}
 use Rattle.table_search.proofs.find_tsn.Goals as goal
 
-pub loop-i-init : goal.loop-i-init
-loop-i-init c =
-    let a = c.args in
-    let e = rows_long a.size a.table.now c.requires.table_len in
-    (refl, sought_none (has_tsn a.tsn) (rows_of a.size a.table.now) a.from a.n (omega arith))
-
-pub returns-then-table-tsns : goal.returns-then-table-tsns
-returns-then-table-tsns c =
-    let l = c.before.before.before in
-    let s = l.before in
-    let a = s.args in
-    let w = tsn-at a.size a.table.now s.requires.table_len (a.from + l.loop-i.i) (omega arith) {q = a.size + a.from + l.loop-i.i} (omega arith) in
-    sought_here l.loop-i.invariant.1 (omega arith) (eq-eqb _ _ (sym w ∙ c.if-table-tsns.true))
-
-pub loop-i-preserved : goal.loop-i-preserved
-loop-i-preserved c =
-    let l = c.before.before.before in
-    let s = l.before in
-    let a = s.args in
-    let w = tsn-at a.size a.table.now s.requires.table_len (a.from + l.loop-i.i) (omega arith) {q = a.size + a.from + l.loop-i.i} (omega arith) in
-    (refl, sought_turn l.loop-i.invariant.1 (omega arith) (ne_eqb _ _ (λ e. c.if-table-tsns.false (w ∙ e))))
-
 pub returns : goal.returns
-returns c = sought_all c.loop-i.invariant.1 c.loop-i-test.false
+returns c =
+    let a = c.args in
+    let q = a.size + a.from in
+    let e = tsns_at a.size a.table.now c.requires.table_len a.from a.n c.requires.n_bound in
+    let f = position_from_yields_List (λ word. nat_eq word a.tsn) _ _ _ c.position.ensures.ran (YieldsList-from_slice (take (q + a.n - q) (drop q a.table.now)) cc) (λ x b q k. search (rules, tests)) in
+    rw (c.unwrap_or.ensures, f, e) (ahead-found (λ word. nat_eq word a.tsn) (λ r. r.tsn) _ a.n (those_long a.size a.table.now c.requires.table_len a.from a.n c.requires.n_bound))

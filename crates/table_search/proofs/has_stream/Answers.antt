@@ -1,27 +1,15 @@
--- `table_search::has_stream` meets its contract: after i turns it is whether one of the first i rows is of the stream.
-use mathlib.Core.Path.{◌≡◌, refl}
-use Prim.Native.Nat.{◌+◌, ◌*◌, ◌-◌}
-use native.Mathlib.Omega.{arith}
-use Rattle.table.specs.Rows.{rows_of, some}
-use Rattle.table.proofs.Columns.{rows_long}
-use Rattle.table.proofs.Scans.{rows_more, some-snoc, id_at}
+-- `table_search::has_stream` meets its contract: the words passed are the ids of the rows.
+use Rattle.std.proofs.Common.{◌∙◌, ◌/◌, nat_eq}
+use Rattle.std.proofs.lemmas.List.{take_all}
+use Rattle.std.proofs.lemmas.List.Folds.{list_any_more}
+use Rattle.table.proofs.Words.{ids_at, some-words}
 use Rattle.table_search.proofs.has_stream.Goals as goal
 
-pub loop-i-init : goal.loop-i-init
-unfolding some
-loop-i-init c = (omega arith, refl, refl, refl)
-
-pub loop-i-preserved : goal.loop-i-preserved
-loop-i-preserved c =
-    let l = c.before.before in
-    let s = l.before in
-    let a = s.args in
-    let n = a.size in
-    let ws = a.table.now in
-    let long = s.requires.table_len in
-    let i = l.loop-i.i in
-    let e = rows_long n ws long in
-    (omega arith, refl, refl, rw (rows_more (rows_of n ws) a.from i (omega arith), some-snoc, ← l.loop-i.invariant.3, ← (id_at n ws long (a.from + i) (omega arith) {q = 2 * n + a.from + i} (omega arith))))
+pub loop-id-preserved : goal.loop-id-preserved
+loop-id-preserved c = rw (list_any_more (λ word. nat_eq (word / 65536) c.args.stream) _ c.loop-id.id-index 0 c.loop-id-test.true, ← c.loop-id.invariant)
 
 pub returns : goal.returns
-returns c = let l = c.before in let e : l.loop-i.i ≡ l.args.n = omega arith in rw e at l.loop-i.invariant.3
+returns c =
+    let a = c.args in
+    let e = ids_at a.size a.table.now c.requires.table_len a.from a.n c.requires.n_bound in
+    rw (take_all c.loop-id.id-index _ c.loop-id-test.false, e) at c.loop-id.invariant ∙ some-words (λ word. nat_eq (word / 65536) a.stream) (λ r. r.id) _

@@ -1,12 +1,7 @@
--- `table_search::has_stream` meets its contract: after i turns it is whether one of the first i rows is of the stream.
-use mathlib.Core.Path.{◌≡◌}
-use Prim.Native.Nat.{◌+◌, ◌*◌, ◌-◌, ◌≤◌}
-use lib.ListN.{take, drop}
-use Rattle.table.specs.Rows.{rows_of, some, has_stream}
+-- `table_search::has_stream` meets its contract: so far it is whether one of the words passed has the stream in its upper half.
+use Rattle.std.proofs.Common.{◌≡◌, ◌/◌, take, nat_eq}
+use Rattle.std.specs.List.{list_any}
 use Rattle.table_search.proofs.has_stream.Given as goal
 
-abbrev pub invariant-loop-i : goal.invariant-loop-i
-invariant-loop-i l = (l.i ≤ l.n) × (l.wanted ≡ l.stream) × (l.ids ≡ 2 * l.size + l.from) × (l.found ≡ some (has_stream l.stream) (take l.i (drop l.from (rows_of l.size l.table))))
-
-abbrev pub decreases-loop-i : goal.decreases-loop-i
-decreases-loop-i l = l.n - l.i
+abbrev pub invariant-loop-id : goal.invariant-loop-id
+invariant-loop-id l = l.found ≡ list_any (λ word. nat_eq (word / 65536) l.wanted) (take l.id-index l.id-items)

@@ -1,27 +1,15 @@
--- `table_search::has_tsn` meets its contract: after i turns it is whether one of the first i rows has the TSN.
-use mathlib.Core.Path.{◌≡◌, refl}
-use Prim.Native.Nat.{◌+◌, ◌-◌}
-use native.Mathlib.Omega.{arith}
-use Rattle.table.specs.Rows.{rows_of, some}
-use Rattle.table.proofs.Columns.{rows_long}
-use Rattle.table.proofs.Scans.{rows_more, some-snoc, tsn-at}
+-- `table_search::has_tsn` meets its contract: the words passed are the TSNs of the rows.
+use Rattle.std.proofs.Common.{◌∙◌, nat_eq}
+use Rattle.std.proofs.lemmas.List.{take_all}
+use Rattle.std.proofs.lemmas.List.Folds.{list_any_more}
+use Rattle.table.proofs.Words.{tsns_at, some-words}
 use Rattle.table_search.proofs.has_tsn.Goals as goal
 
-pub loop-i-init : goal.loop-i-init
-unfolding some
-loop-i-init c = (omega arith, refl, refl)
-
-pub loop-i-preserved : goal.loop-i-preserved
-loop-i-preserved c =
-    let l = c.before.before in
-    let s = l.before in
-    let a = s.args in
-    let n = a.size in
-    let ws = a.table.now in
-    let long = s.requires.table_len in
-    let i = l.loop-i.i in
-    let e = rows_long n ws long in
-    (omega arith, refl, rw (rows_more (rows_of n ws) a.from i (omega arith), some-snoc, ← l.loop-i.invariant.2, ← (tsn-at n ws long (a.from + i) (omega arith) {q = n + a.from + i} (omega arith))))
+pub loop-held-preserved : goal.loop-held-preserved
+loop-held-preserved c = rw (list_any_more (λ word. nat_eq word c.args.tsn) _ c.loop-held.held-index 0 c.loop-held-test.true, ← c.loop-held.invariant)
 
 pub returns : goal.returns
-returns c = let l = c.before in let e : l.loop-i.i ≡ l.args.n = omega arith in rw e at l.loop-i.invariant.2
+returns c =
+    let a = c.args in
+    let e = tsns_at a.size a.table.now c.requires.table_len a.from a.n c.requires.n_bound in
+    rw (take_all c.loop-held.held-index _ c.loop-held-test.false, e) at c.loop-held.invariant ∙ some-words (λ word. nat_eq word a.tsn) (λ r. r.tsn) _

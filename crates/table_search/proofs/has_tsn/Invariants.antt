@@ -1,12 +1,7 @@
--- `table_search::has_tsn` meets its contract: after i turns it is whether one of the first i rows has the TSN.
-use mathlib.Core.Path.{◌≡◌}
-use Prim.Native.Nat.{◌+◌, ◌-◌, ◌≤◌}
-use lib.ListN.{take, drop}
-use Rattle.table.specs.Rows.{rows_of, some, has_tsn}
+-- `table_search::has_tsn` meets its contract: so far it is whether one of the words passed is the TSN.
+use Rattle.std.proofs.Common.{◌≡◌, take, nat_eq}
+use Rattle.std.specs.List.{list_any}
 use Rattle.table_search.proofs.has_tsn.Given as goal
 
-abbrev pub invariant-loop-i : goal.invariant-loop-i
-invariant-loop-i l = (l.i ≤ l.n) × (l.tsns ≡ l.size + l.from) × (l.found ≡ some (has_tsn l.tsn) (take l.i (drop l.from (rows_of l.size l.table))))
-
-abbrev pub decreases-loop-i : goal.decreases-loop-i
-decreases-loop-i l = l.n - l.i
+abbrev pub invariant-loop-held : goal.invariant-loop-held
+invariant-loop-held l = l.found ≡ list_any (λ word. nat_eq word l.tsn) (take l.held-index l.held-items)

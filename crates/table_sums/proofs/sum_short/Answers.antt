@@ -1,27 +1,12 @@
--- `table_sums::sum_short` meets its contract: after i turns the sum is that of the first i rows.
-use mathlib.Core.Path.{◌≡◌, refl}
-use Prim.Native.Nat.{◌+◌, ◌-◌}
-use native.Mathlib.Omega.{arith}
-use Rattle.table.specs.Rows.{rows_of, total}
-use Rattle.table.proofs.Columns.{rows_long}
-use Rattle.table.proofs.Scans.{rows_more, total-snoc, head_at}
+-- `table_sums::sum_short` meets its contract: the words passed are the heads of the rows.
+use Rattle.std.proofs.Common.{◌∙◌}
+use Rattle.std.proofs.lemmas.List.{take_all}
+use Rattle.table.specs.Rows.{short_length}
+use Rattle.table.proofs.Words.{heads_at, total-words}
 use Rattle.table_sums.proofs.sum_short.Goals as goal
 
-pub loop-i-init : goal.loop-i-init
-unfolding total
-loop-i-init c = (omega arith, omega arith, refl)
-
-pub loop-i-preserved : goal.loop-i-preserved
-loop-i-preserved c =
-    let l = c.before.before.before in
-    let s = l.before.before in
-    let a = s.args in
-    let n = a.size in
-    let ws = a.table.now in
-    let long = s.requires.table_len in
-    let i = l.loop-i.i in
-    let e = rows_long n ws long in
-    (omega arith, omega arith, rw (rows_more (rows_of n ws) a.from i (omega arith), total-snoc, ← l.loop-i.invariant.2, ← (head_at n ws long (a.from + i) (omega arith) refl), ← c.short_length-sum.ensures))
-
 pub returns : goal.returns
-returns c = let l = c.before in let e : l.loop-i.i ≡ l.args.n = omega arith in rw e at l.loop-i.invariant.2
+returns c =
+    let a = c.args in
+    let e = heads_at a.size a.table.now c.requires.table_len a.from a.n c.requires.n_bound in
+    rw (take_all c.loop-head.head-index _ c.loop-head-test.false, e) at c.loop-head.invariant.1 ∙ total-words short_length _

@@ -1,7 +1,5 @@
 -- `wire_put::put_u32` meets its contract: its bytes are stored from the front on.
 use borrow.Author.Rules.{rules}
-use native.Mathlib.Omega.{arith}
-use lib.ListN.{length-set}
 use Rattle.wire_model.specs.BigEndian.{big_endian}
 use Rattle.wire_put.proofs.Laws.{put_front}
 use Rattle.wire_put.proofs.put_u32.Goals as goal

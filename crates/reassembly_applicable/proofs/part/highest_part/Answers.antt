@@ -1,7 +1,7 @@
 -- `reassembly_applicable::part::highest_part` meets its contract: of the SSNs of the sets passed that may end a part the highest is kept.
 use mathlib.Core.Path.{sym, ap, ◌∙◌}
 use mathlib.Core.Option.{Option}
-use Prim.Native.Nat.{ℕ, ◌+◌, ◌-◌, ◌≤◌, ◌<◌}
+use Prim.Native.Nat.{ℕ, ◌+◌, ◌≤◌, ◌<◌}
 use native.Mathlib.Omega.{arith}
 use Rattle.wire_model.specs.Refusal.{none, says}
 use Rattle.set_reach.specs.Kept.{higher}

@@ -2,4 +2,4 @@
 use Rattle.sctp_receive.proofs.bounded_calls.sctp_receive_reassembly_queue_forward_tsn_for_ordered_bounded.Goals as goal
 
 pub returns : goal.returns
-returns c = rw c.forwarded.ensures c.forward_tsn_for_ordered_bounded-forwarded.ensures
+returns c = rw c.forwarded.ensures c.forward_tsn_for_ordered_bounded-answer.ensures

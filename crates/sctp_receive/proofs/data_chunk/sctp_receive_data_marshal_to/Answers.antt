@@ -2,4 +2,4 @@
 use Rattle.sctp_receive.proofs.data_chunk.sctp_receive_data_marshal_to.Goals as goal
 
 pub returns : goal.returns
-returns c = rw c.marshalled.ensures c.marshal_to-answer.ensures
+returns c = rw c.counted.ensures c.marshal_to-answer.ensures

@@ -1,12 +1,11 @@
 -- `sctp_receive_data_unmarshal` answers what the call below it does.
-use native.Mathlib.Omega.{arith}
-use Rattle.sctp_receive_result.proofs.Codes.{says_refuse}
+use borrow.Author.Rules.{rules}
 use Rattle.data_fields.specs.Fields.{data_held}
 use Rattle.sctp_receive.proofs.data_chunk.sctp_receive_data_unmarshal.Goals as goal
 
-pub returns-in-Fields : goal.returns-in-Fields
+pub returns-in-Ok : goal.returns-in-Ok
 unfolding data_held
-returns-in-Fields c f = rw (← (c.unmarshal-answer.ensures f), c.in-Fields.is)
+returns-in-Ok c f = rw (← (c.unmarshal-answer.ensures f), c.in-Ok.is)
 
-pub returns-in-Refused : goal.returns-in-Refused
-returns-in-Refused c f = rw (← (c.unmarshal-answer.ensures f), c.in-Refused.is, says_refuse c.in-Refused.k (omega arith))
+pub returns-in-Err : goal.returns-in-Err
+returns-in-Err c f = rw (← (c.unmarshal-answer.ensures f), c.in-Err.is) (search rules)

@@ -3,4 +3,4 @@ use mathlib.Core.Path.{◌∙◌}
 use Rattle.sctp_receive.proofs.fragment_calls.sctp_receive_reassembly_queue_get_num_bytes.Goals as goal
 
 pub returns : goal.returns
-returns c = c.number.ensures ∙ c.get_num_bytes-answer.ensures
+returns c = c.counted.ensures ∙ c.get_num_bytes-answer.ensures

@@ -2,4 +2,4 @@
 use Rattle.sctp_receive.proofs.fragment_calls.sctp_receive_reassembly_queue_new.Goals as goal
 
 pub returns : goal.returns
-returns c = c.new-left.ensures
+returns c = c.new.ensures

@@ -6,4 +6,4 @@ use Rattle.sctp_receive.proofs.fragment_calls.sctp_receive_reassembly_queue_read
 pub returns : goal.returns
 returns c =
     let told = c.taken-left.ensures in
-    reads-left _ _ _ told.1 told.0 ∙ c.read-taken.ensures
+    reads-left _ _ _ told.1 told.0 ∙ c.read-answer.ensures

@@ -2,4 +2,4 @@
 use Rattle.sctp_receive.proofs.message.sctp_receive_chunks_read.Goals as goal
 
 pub returns : goal.returns
-returns c = rw (← c.hand-message.ensures, c.number.ensures) c.read-answer.ensures
+returns c = rw (← c.hand-message.ensures, c.counted.ensures) c.read-answer.ensures

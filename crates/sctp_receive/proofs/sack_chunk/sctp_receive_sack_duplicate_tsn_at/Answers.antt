@@ -1,10 +1,9 @@
 -- `sctp_receive_sack_duplicate_tsn_at` answers what the call below it does.
-use native.Mathlib.Omega.{arith}
-use Rattle.sctp_receive_result.proofs.Codes.{says_refuse}
+use borrow.Author.Rules.{rules}
 use Rattle.sctp_receive.proofs.sack_chunk.sctp_receive_sack_duplicate_tsn_at.Goals as goal
 
-pub returns-in-Tsn : goal.returns-in-Tsn
-returns-in-Tsn c f = rw (← (c.duplicate_tsn_at-answer.ensures f), c.in-Tsn.is)
+pub returns-in-Ok : goal.returns-in-Ok
+returns-in-Ok c f = rw (← (c.duplicate_tsn_at-answer.ensures f), c.in-Ok.is)
 
-pub returns-in-Refused : goal.returns-in-Refused
-returns-in-Refused c f = rw (← (c.duplicate_tsn_at-answer.ensures f), c.in-Refused.is, says_refuse c.in-Refused.k (omega arith))
+pub returns-in-Err : goal.returns-in-Err
+returns-in-Err c f = rw (← (c.duplicate_tsn_at-answer.ensures f), c.in-Err.is) (search rules)

@@ -1,23 +1,22 @@
 -- `sctp_receive_sack_gap_ack_blocks` meets its contract: what reading the fields says decides, and the counts say where the part stands.
 use mathlib.Core.Path.{ap}
-use native.Mathlib.Omega.{arith}
+use borrow.Author.Rules.{rules}
 use lib.ListN.{length}
 use Rattle.chunk_selective_ack.specs.Layout.{Sack}
 use Rattle.chunk_selective_ack.specs.Sack.{sack_held}
 use Rattle.sack_fields.proofs.Answers.{sack-refused, sack-taken}
 use Rattle.sctp_receive_places.specs.Places.{blocks_span}
-use Rattle.sctp_receive_result.proofs.Codes.{says_refuse}
 use Rattle.sctp_receive.proofs.sack_chunk.sctp_receive_sack_gap_ack_blocks.Goals as goal
 
-pub returns-in-Fields : goal.returns-in-Fields
+pub returns-in-Ok : goal.returns-in-Ok
 unfolding blocks_span sack_held
-returns-in-Fields c f =
+returns-in-Ok c f =
     let r = c.unmarshal-answer in
-    let t = sack-taken (length c.args.raw.now) f.fields r.result (r.ensures f) c.in-Fields.is in
+    let t = sack-taken (length c.args.raw.now) f.fields (rw c.in-Ok.is at (r.ensures f)) in
     rw (t.0, ← (ap (λ (x : Sack). x.blocks) t.1))
 
-pub returns-in-Refused : goal.returns-in-Refused
+pub returns-in-Err : goal.returns-in-Err
 unfolding blocks_span
-returns-in-Refused c f =
+returns-in-Err c f =
     let r = c.unmarshal-answer in
-    rw (sack-refused (length c.args.raw.now) f.fields r.result (r.ensures f) c.in-Refused.is, says_refuse c.in-Refused.k (omega arith))
+    rw (sack-refused (length c.args.raw.now) f.fields (rw c.in-Err.is at (r.ensures f))) (search rules)

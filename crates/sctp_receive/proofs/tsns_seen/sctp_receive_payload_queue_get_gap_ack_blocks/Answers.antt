@@ -5,4 +5,4 @@ use Rattle.sctp_receive.proofs.tsns_seen.sctp_receive_payload_queue_get_gap_ack_
 
 pub returns : goal.returns
 unfolding gap_report unsound
-returns c = rw c.number.ensures (rw c.of_counts-queue.ensures at c.get_gap_ack_blocks-answer.ensures)
+returns c = rw c.counted.ensures (rw c.of_counts-queue.ensures at c.get_gap_ack_blocks-answer.ensures)

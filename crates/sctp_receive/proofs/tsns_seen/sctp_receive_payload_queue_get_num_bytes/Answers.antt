@@ -5,4 +5,4 @@ use Rattle.sctp_receive.proofs.tsns_seen.sctp_receive_payload_queue_get_num_byte
 
 pub returns : goal.returns
 unfolding num_bytes unsound
-returns c = c.number.ensures ∙ (rw c.of_counts-queue.ensures at c.get_num_bytes-answer.ensures)
+returns c = c.counted.ensures ∙ (rw c.of_counts-queue.ensures at c.get_num_bytes-answer.ensures)

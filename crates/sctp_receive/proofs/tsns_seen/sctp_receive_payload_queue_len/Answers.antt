@@ -5,4 +5,4 @@ use Rattle.sctp_receive.proofs.tsns_seen.sctp_receive_payload_queue_len.Goals as
 
 pub returns : goal.returns
 unfolding counted unsound
-returns c = c.number.ensures ∙ (rw c.of_counts-queue.ensures at c.len-answer.ensures)
+returns c = c.counted.ensures ∙ (rw c.of_counts-queue.ensures at c.len-answer.ensures)

@@ -1,9 +1,0 @@
--- `answer_fragments::shown::records` is safe, and ends: the measure is what is left of the records. Assumes nothing.
-use Rattle.std.proofs.Common.{◌-◌}
-use Rattle.answer_fragments.proofs.shown.records.Given as goal
-
-abbrev pub invariant-loop-i : goal.invariant-loop-i
-invariant-loop-i l = Unit {0}
-
-abbrev pub decreases-loop-i : goal.decreases-loop-i
-decreases-loop-i l = 512 - l.i

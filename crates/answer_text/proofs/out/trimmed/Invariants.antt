@@ -1,9 +1,0 @@
--- `answer_text::out::trimmed` is safe, and ends: the measure is what is left of the bytes. Assumes nothing.
-use Rattle.std.proofs.Common.{◌-◌}
-use Rattle.answer_text.proofs.out.trimmed.Given as goal
-
-abbrev pub invariant-loop-i : goal.invariant-loop-i
-invariant-loop-i l = Unit {0}
-
-abbrev pub decreases-loop-i : goal.decreases-loop-i
-decreases-loop-i l = l.to - l.i

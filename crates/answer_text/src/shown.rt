@@ -1,0 +1,95 @@
+// How bytes, flags, marks and lists stand in an answer.
+use data_fields::ChunkPayloadData;
+use std::fmt;
+
+// In hexadecimal digits; a dash where there are none.
+#[derive(Clone, Copy)]
+pub struct Bytes<'a>(pub &'a [u8]);
+
+// So many bytes are spelt at once. Each by {:02x} takes seven times as long.
+const AT_ONCE: usize = 32;
+
+impl<'a> fmt::Display for Bytes<'a> {
+    fn fmt<W: fmt::Write>(&self, f: &mut fmt::Formatter<W>) -> fmt::Result {
+        if self.0.is_empty() {
+            return f.write_str("-");
+        }
+        let mut digits = [0u8; 2 * AT_ONCE];
+        for part in self.0.chunks(AT_ONCE) {
+            let room = &mut digits[..2 * part.len().min(AT_ONCE)];
+            let _ = hex::encode_to_slice(part, room);
+            match str::from_utf8(room) {
+                Ok(text) => f.write_str(text)?,
+                Err(_) => return Err(fmt::Error),
+            }
+        }
+        Ok(())
+    }
+}
+
+// Each number behind a space.
+#[derive(Clone, Copy)]
+pub struct Numbers<'a, T>(pub &'a [T]);
+
+impl<'a, T: fmt::Display> fmt::Display for Numbers<'a, T> {
+    fn fmt<W: fmt::Write>(&self, f: &mut fmt::Formatter<W>) -> fmt::Result {
+        for n in self.0 {
+            write!(f, " {n}")?;
+        }
+        Ok(())
+    }
+}
+
+// Flags, TSN, stream, SSN and payload identifier.
+#[derive(Clone, Copy)]
+pub struct Fields(pub ChunkPayloadData);
+
+impl fmt::Display for Fields {
+    fn fmt<W: fmt::Write>(&self, f: &mut fmt::Formatter<W>) -> fmt::Result {
+        let chunk = self.0;
+        let flags = [
+            ("U", chunk.unordered),
+            ("B", chunk.beginning_fragment),
+            ("E", chunk.ending_fragment),
+            ("I", chunk.immediate_sack),
+        ];
+        letters(f, &flags)?;
+        let tsn = chunk.tsn;
+        let stream = chunk.stream_identifier;
+        let ssn = chunk.stream_sequence_number;
+        let identifier = chunk.payload_type;
+        write!(f, " {tsn} {stream} {ssn} {identifier}")
+    }
+}
+
+// What is marked of a chunk in flight.
+#[derive(Clone, Copy)]
+pub struct Marks {
+    pub acked: bool,
+    pub abandoned: bool,
+    pub retransmit: bool,
+}
+
+impl fmt::Display for Marks {
+    fn fmt<W: fmt::Write>(&self, f: &mut fmt::Formatter<W>) -> fmt::Result {
+        let marks = [
+            ("A", self.acked),
+            ("X", self.abandoned),
+            ("R", self.retransmit),
+        ];
+        letters(f, &marks)
+    }
+}
+
+// The letter of each that is set; a dash where none is.
+fn letters<W: fmt::Write>(f: &mut fmt::Formatter<W>, all: &[(&str, bool)]) -> fmt::Result {
+    if !all.iter().any(|(_, set)| *set) {
+        return f.write_str("-");
+    }
+    for (letter, set) in all {
+        if *set {
+            f.write_str(letter)?;
+        }
+    }
+    Ok(())
+}

@@ -1,6 +1,0 @@
--- `inflight_fresh::fresh` meets its contract: what it makes is the fresh queue's counts.
-use mathlib.Core.Path.{refl}
-use Rattle.inflight_fresh.proofs.fresh.Goals as goal
-
-pub returns : goal.returns
-returns c = refl

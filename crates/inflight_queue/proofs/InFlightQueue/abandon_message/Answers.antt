@@ -1,5 +1,0 @@
--- `inflight_queue::InFlightQueue::abandon_message` meets its contract: the call below takes the same counts, and gives those of the queue that is left.
-use Rattle.inflight_queue.proofs.InFlightQueue.abandon_message.Goals as goal
-
-pub returns : goal.returns
-returns c = rw c.queue_of.ensures (rw c.counts.ensures at c.abandon_message-left.ensures)

@@ -1,5 +1,0 @@
--- `payload_queue::PayloadQueue::pop_up_to` meets its contract: the call below takes the same counts, and gives those of the queue that is left.
-use Rattle.payload_queue.proofs.PayloadQueue.pop_up_to.Goals as goal
-
-pub returns : goal.returns
-returns c = rw c.queue_of.ensures (rw c.counts.ensures at c.pop_up_to-left.ensures)

@@ -1,6 +1,0 @@
--- `payload_queue::queue_of` meets its contract: each count goes to its field.
-use mathlib.Core.Path.{refl}
-use Rattle.payload_queue.proofs.queue_of.Goals as goal
-
-pub returns : goal.returns
-returns c = refl

@@ -1,7 +1,0 @@
--- `sctp_receive_cause_count::counted` meets its contract: the count as answered, else 0 and the refusal.
-use native.Mathlib.Omega.{arith}
-use Rattle.sctp_receive_result.proofs.Codes.{back_refuse}
-use Rattle.sctp_receive_cause_count.proofs.counted.Goals as goal
-
-pub returns-in-Refused : goal.returns-in-Refused
-returns-in-Refused c = rw (c.in-Refused.is, back_refuse c.in-Refused.k (omega arith))

@@ -1,5 +1,0 @@
--- `forward_tsn::marshal_to` answers and leaves what the call below it does.
-use Rattle.sctp_receive_forward_pairs.proofs.marshal_to.Goals as goal
-
-pub returns : goal.returns
-returns c = rw c.marshalled.ensures c.marshal_to-answer.ensures
