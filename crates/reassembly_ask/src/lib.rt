@@ -6,7 +6,8 @@ ghost use Rattle.table.specs.Rows.{rows_of, total};
 ghost use Rattle.fragments.specs.Frag.{long_length};
 ghost use Rattle.reassembly_state.specs.Limits.{frags_most};
 ghost use Rattle.reassembly_state.specs.State.{state_of, unsound, count};
-ghost use Rattle.reassembly_ask.specs.Asked.{Asked};
+ghost use Rattle.reassembly_state.specs.Rows.{set_at, set_run};
+ghost use Rattle.reassembly_ask.specs.Asks.{Asks};
 
 use data_fields::ChunkPayloadData;
 use reassembly_parts::room;
@@ -35,36 +36,55 @@ pub struct SetRows {
     pub run: usize,
 }
 
-// The questions of a push of so many bytes in document 01's order; whether there is room the caller says. Where it is kept its set is answered, and what it is told
-// only `keep` can say; where nothing is kept, and it is not refused, it is told false.
-pub fn ask(
-    queue: Counts,
-    table: &[u32],
-    chunk: ChunkPayloadData,
-    more: usize,
-    room: bool,
-) -> Result<Option<SetRows>, Refusal>
+// Whether an ordered push is to be kept, or what it is refused; and where its set stands, whatever is answered.
+#[derive(Clone, Copy)]
+pub struct Asked {
+    pub keep: Result<bool, Refusal>,
+    pub set: SetRows,
+}
+
+// The questions of a push of so many bytes in document 01's order; whether there is room the caller says. Where it is kept, what it is told only `keep` can say;
+// where nothing is kept, and it is not refused, it is told false.
+pub fn ask(queue: Counts, table: &[u32], chunk: ChunkPayloadData, more: usize, room: bool) -> Asked
     requires table_len { length table.now ≡ 4 * frags_most }
     requires queue_bound { count queue ≤ frags_most }
     requires table_value { total long_length (take (count queue) (rows_of frags_most table.now)) ≡ queue.n_bytes }
-    ensures { (pool : List ℕ) → unsound (state_of queue table.now pool) ≡ false → Asked (state_of queue table.now pool) room chunk more result }
+    ensures at_value { (pool : List ℕ) → result.set.at ≡ set_at (state_of queue table.now pool) chunk.stream_sequence_number }
+    ensures run_value { (pool : List ℕ) → result.set.run ≡ set_run (state_of queue table.now pool) chunk.stream_sequence_number }
+    ensures asks { (pool : List ℕ) → unsound (state_of queue table.now pool) ≡ false → Asks (state_of queue table.now pool) room chunk more result.keep result.set }
 {
     let ssn = chunk.stream_sequence_number;
     let from = queue.finished + queue.unordered;
     let ahead = fragment_sets::find_ssn(table, FRAGMENTS, from, queue.ordered, ssn);
     let at = from + ahead;
     let run = fragment_sets::pass_ssn(table, FRAGMENTS, at, queue.ordered - ahead, ssn);
+    let set = SetRows { at, run };
     if too_large(queue, table, at, run, more) {
-        return Err(Refusal::MessageTooLarge);
+        return Asked {
+            keep: Err(Refusal::MessageTooLarge),
+            set,
+        };
     }
     if serial_ssns::sna16lt(ssn, queue.next_ssn) {
-        return Ok(None);
+        return Asked {
+            keep: Ok(false),
+            set,
+        };
     }
     if table_search::has_tsn(table, FRAGMENTS, at, run, chunk.tsn) {
-        return Ok(None);
+        return Asked {
+            keep: Ok(false),
+            set,
+        };
     }
     if !room {
-        return Err(Refusal::NoRoom);
+        return Asked {
+            keep: Err(Refusal::NoRoom),
+            set,
+        };
     }
-    Ok(Some(SetRows { at, run }))
+    Asked {
+        keep: Ok(true),
+        set,
+    }
 }

@@ -128,8 +128,10 @@ pub fn push(
     requires fits_if { fits_if room queue.old (length user_data.now) }
     ensures { after (flag_told result) (state_of queue.new table.new pool.new) ≡ laid (state_of queue.old table.old pool.old) (push_ordered room (view (state_of queue.old table.old pool.old)) (fragment_of chunk user_data.now)) }
 {
-    match reassembly_ask::ask(*queue, table, chunk, user_data.len(), room)? {
-        Some(set) => Ok(keep(queue, table, pool, chunk, user_data, set.at, set.run)),
-        None => Ok(false),
+    let asked = reassembly_ask::ask(*queue, table, chunk, user_data.len(), room);
+    if !asked.keep? {
+        return Ok(false);
     }
+    let set = asked.set;
+    Ok(keep(queue, table, pool, chunk, user_data, set.at, set.run))
 }

@@ -68,10 +68,12 @@ pub fn push(
     ensures { after (flag_told result) (state_of streams.new table.new pool.new) ≡ laid (state_of streams.old table.old pool.old) stream (push_ordered room (own (state_of streams.old table.old pool.old) stream) (fragment_of chunk user_data.now)) }
 {
     let place = streams_parts::among_front(*streams, stream);
-    match reassembly_ask::ask(place.queue, table, chunk, user_data.len(), room)? {
-        Some(set) => Ok(keep(
-            streams, table, pool, stream, chunk, user_data, place, set.at, set.run,
-        )),
-        None => Ok(false),
+    let asked = reassembly_ask::ask(place.queue, table, chunk, user_data.len(), room);
+    if !asked.keep? {
+        return Ok(false);
     }
+    let set = asked.set;
+    Ok(keep(
+        streams, table, pool, stream, chunk, user_data, place, set.at, set.run,
+    ))
 }

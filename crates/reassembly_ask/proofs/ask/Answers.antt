@@ -82,7 +82,11 @@ returns-then-too_large c =
     let at = first_ordered (of []) + c.find_ssn-ahead.result in
     let few : count c.args.queue ≤ frags_most = c.requires.queue_bound in
     let set : (pool : List ℕ) → (at ≡ set_at (of pool) c.args.chunk.stream_sequence_number) × (c.pass_ssn-run.result ≡ set_run (of pool) c.args.chunk.stream_sequence_number) = λ pool. set_found (of pool) few (full pool) c.args.chunk.stream_sequence_number c.find_ssn-ahead.ensures c.pass_ssn-run.ensures in
-    λ pool u. asks_large (of pool) (sound (of pool) u) (full pool) c.args.chunk small c.args.more c.args.room (set pool).0 (set pool).1 (sym c.too_large.ensures ∙ c.if-too_large.true)
+    record {
+      at_value = λ pool. (set pool).0;
+      run_value = λ pool. (set pool).1;
+      asks = λ pool u. asks_large (of pool) (sound (of pool) u) (full pool) c.args.chunk small c.args.more c.args.room (set pool).0 (set pool).1 (sym c.too_large.ensures ∙ c.if-too_large.true);
+    }
 
 pub returns-then-sna16lt : goal.returns-then-sna16lt
 returns-then-sna16lt c =
@@ -93,8 +97,12 @@ returns-then-sna16lt c =
     let at = first_ordered (of []) + c.find_ssn-ahead.result in
     let few : count c.args.queue ≤ frags_most = c.requires.queue_bound in
     let set : (pool : List ℕ) → (at ≡ set_at (of pool) c.args.chunk.stream_sequence_number) × (c.pass_ssn-run.result ≡ set_run (of pool) c.args.chunk.stream_sequence_number) = λ pool. set_found (of pool) few (full pool) c.args.chunk.stream_sequence_number c.find_ssn-ahead.ensures c.pass_ssn-run.ensures in
-    λ pool u. asks_old (of pool) (sound (of pool) u) (full pool) c.args.chunk small c.args.more c.args.room (set pool).0 (set pool).1 (sym c.too_large.ensures ∙ c.if-too_large.false)
-    (sym c.sna16lt.ensures ∙ c.if-sna16lt.true)
+    record {
+      at_value = λ pool. (set pool).0;
+      run_value = λ pool. (set pool).1;
+      asks = λ pool u. asks_old (of pool) (sound (of pool) u) (full pool) c.args.chunk small c.args.more c.args.room (set pool).0 (set pool).1 (sym c.too_large.ensures ∙ c.if-too_large.false)
+          (sym c.sna16lt.ensures ∙ c.if-sna16lt.true);
+    }
 
 pub has_tsn-requires : goal.has_tsn-requires
 has_tsn-requires c =
@@ -119,8 +127,12 @@ returns-then-has_tsn c =
     let at = first_ordered (of []) + c.find_ssn-ahead.result in
     let few : count c.args.queue ≤ frags_most = c.requires.queue_bound in
     let set : (pool : List ℕ) → (at ≡ set_at (of pool) c.args.chunk.stream_sequence_number) × (c.pass_ssn-run.result ≡ set_run (of pool) c.args.chunk.stream_sequence_number) = λ pool. set_found (of pool) few (full pool) c.args.chunk.stream_sequence_number c.find_ssn-ahead.ensures c.pass_ssn-run.ensures in
-    λ pool u. asks_again (of pool) (sound (of pool) u) (full pool) c.args.chunk small c.args.more c.args.room (set pool).0 (set pool).1 (sym c.too_large.ensures ∙ c.if-too_large.false)
-    (sym c.sna16lt.ensures ∙ c.if-sna16lt.false) (sym c.has_tsn.ensures ∙ c.if-has_tsn.true)
+    record {
+      at_value = λ pool. (set pool).0;
+      run_value = λ pool. (set pool).1;
+      asks = λ pool u. asks_again (of pool) (sound (of pool) u) (full pool) c.args.chunk small c.args.more c.args.room (set pool).0 (set pool).1 (sym c.too_large.ensures ∙ c.if-too_large.false)
+          (sym c.sna16lt.ensures ∙ c.if-sna16lt.false) (sym c.has_tsn.ensures ∙ c.if-has_tsn.true);
+    }
 
 pub returns-then-not-room : goal.returns-then-not-room
 returns-then-not-room c =
@@ -131,8 +143,12 @@ returns-then-not-room c =
     let at = first_ordered (of []) + c.find_ssn-ahead.result in
     let few : count c.args.queue ≤ frags_most = c.requires.queue_bound in
     let set : (pool : List ℕ) → (at ≡ set_at (of pool) c.args.chunk.stream_sequence_number) × (c.pass_ssn-run.result ≡ set_run (of pool) c.args.chunk.stream_sequence_number) = λ pool. set_found (of pool) few (full pool) c.args.chunk.stream_sequence_number c.find_ssn-ahead.ensures c.pass_ssn-run.ensures in
-    λ pool u. asks_crowded (of pool) (sound (of pool) u) (full pool) c.args.chunk small c.args.more c.args.room (set pool).0 (set pool).1 (sym c.too_large.ensures ∙ c.if-too_large.false)
-    (sym c.sna16lt.ensures ∙ c.if-sna16lt.false) (sym c.has_tsn.ensures ∙ c.if-has_tsn.false) c.if-not-room.true
+    record {
+      at_value = λ pool. (set pool).0;
+      run_value = λ pool. (set pool).1;
+      asks = λ pool u. asks_crowded (of pool) (sound (of pool) u) (full pool) c.args.chunk small c.args.more c.args.room (set pool).0 (set pool).1 (sym c.too_large.ensures ∙ c.if-too_large.false)
+          (sym c.sna16lt.ensures ∙ c.if-sna16lt.false) (sym c.has_tsn.ensures ∙ c.if-has_tsn.false) c.if-not-room.true;
+    }
 
 pub returns : goal.returns
 returns c =
@@ -143,5 +159,9 @@ returns c =
     let at = first_ordered (of []) + c.find_ssn-ahead.result in
     let few : count c.args.queue ≤ frags_most = c.requires.queue_bound in
     let set : (pool : List ℕ) → (at ≡ set_at (of pool) c.args.chunk.stream_sequence_number) × (c.pass_ssn-run.result ≡ set_run (of pool) c.args.chunk.stream_sequence_number) = λ pool. set_found (of pool) few (full pool) c.args.chunk.stream_sequence_number c.find_ssn-ahead.ensures c.pass_ssn-run.ensures in
-    λ pool u. asks_kept (of pool) (sound (of pool) u) (full pool) c.args.chunk small c.args.more c.args.room (set pool).0 (set pool).1 (sym c.too_large.ensures ∙ c.if-too_large.false)
-    (sym c.sna16lt.ensures ∙ c.if-sna16lt.false) (sym c.has_tsn.ensures ∙ c.if-has_tsn.false) c.if-not-room.false
+    record {
+      at_value = λ pool. (set pool).0;
+      run_value = λ pool. (set pool).1;
+      asks = λ pool u. asks_kept (of pool) (sound (of pool) u) (full pool) c.args.chunk small c.args.more c.args.room (set pool).0 (set pool).1 (sym c.too_large.ensures ∙ c.if-too_large.false)
+          (sym c.sna16lt.ensures ∙ c.if-sna16lt.false) (sym c.has_tsn.ensures ∙ c.if-has_tsn.false) c.if-not-room.false;
+    }

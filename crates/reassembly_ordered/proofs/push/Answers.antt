@@ -9,8 +9,8 @@ use Rattle.reassembly_state.proofs.Laws.{Sound, sound}
 use Rattle.reassembly_ask.proofs.Sets.{asked-stays}
 use Rattle.reassembly_ordered.proofs.push.Goals as goal
 
-pub ask-requires : goal.ask-requires
-ask-requires c =
+pub ask-asked-requires : goal.ask-asked-requires
+ask-asked-requires c =
     let of = state_of c.args.queue.now c.args.table.now c.args.pool.now in
     let ok : Sound of = sound of c.requires.pool_value in
     record {
@@ -19,17 +19,17 @@ ask-requires c =
       table_value = ok.sums;
     }
 
-pub returns-in_err-set : goal.returns-in_err-set
-returns-in_err-set c =
+pub returns-in_err-asked : goal.returns-in_err-asked
+returns-in_err-asked c =
     let of = state_of c.args.queue.now c.args.table.now c.args.pool.now in
     let ok : Sound of = sound of c.requires.pool_value in
     let full : length of.rows ≡ frags_most = rows_long frags_most c.args.table.now c.requires.table_len in
     let e = err_from_is_err_and c.from_residual.result c.from_residual.ensures.1 in
-    rw (e.1, e.2) (asked-stays of ok full c.args.room c.args.chunk c.args.user_data.now (c.in_err-set.ensures c.args.pool.now c.requires.pool_value))
+    rw (e.1, e.2) (asked-stays of ok full c.args.room c.args.chunk c.args.user_data.now (rw c.in_err-asked.was at (c.ask-asked.ensures.asks c.args.pool.now c.requires.pool_value)))
 
-pub returns-in-None : goal.returns-in-None
-returns-in-None c =
+pub returns-then-not-branch : goal.returns-then-not-branch
+returns-then-not-branch c =
     let of = state_of c.args.queue.now c.args.table.now c.args.pool.now in
     let ok : Sound of = sound of c.requires.pool_value in
     let full : length of.rows ≡ frags_most = rows_long frags_most c.args.table.now c.requires.table_len in
-    asked-stays of ok full c.args.room c.args.chunk c.args.user_data.now (rw c.in-None.is at c.in_ok-set.ensures c.args.pool.now c.requires.pool_value)
+    asked-stays of ok full c.args.room c.args.chunk c.args.user_data.now (rw (c.in_ok-asked.was, c.if-not-branch.true) at (c.ask-asked.ensures.asks c.args.pool.now c.requires.pool_value))

@@ -31,8 +31,8 @@ among_front-place-requires c =
       streams_bound_2 = bytes_bounded of ok;
     }
 
-pub ask-requires : goal.ask-requires
-ask-requires c =
+pub ask-asked-requires : goal.ask-asked-requires
+ask-asked-requires c =
     let sized : length c.args.table.now ≡ 4 * frags_most = search rules in
     let of = state_of c.args.streams.now c.args.table.now c.args.pool.now in
     let ok : Sound of = sound of (search rules) in
@@ -46,15 +46,15 @@ ask-requires c =
       table_value = safe.sums;
     }
 
-pub returns-in_err-set : goal.returns-in_err-set
-returns-in_err-set c =
+pub returns-in_err-asked : goal.returns-in_err-asked
+returns-in_err-asked c =
     let of = state_of c.args.streams.now c.args.table.now c.args.pool.now in
     let ok : Sound of = sound of (search rules) in
     let full : length of.rows ≡ frags_most = rows_long frags_most c.args.table.now (search rules) in
     let here : c.args.stream < streams_most = search rules in
     let front : c.among_front-place.result.queue ≡ among_none of.queues c.args.stream = c.among_front-place.ensures.queue_value in
     let e = err_from_is_err_and c.from_residual.result c.from_residual.ensures.1 in
-    rw (e.1, e.2) (away of ok full c.args.stream here c.args.room c.args.chunk c.args.user_data.now (asks_front of ok full c.args.stream here front (λ (t : one.State). Declines t c.args.room c.args.chunk (length c.args.user_data.now) (says (refuse (number c.in_err-set.field-0.0)) false)) (c.in_err-set.ensures c.args.pool.now)))
+    rw (e.1, e.2) (away of ok full c.args.stream here c.args.room c.args.chunk c.args.user_data.now (asks_front of ok full c.args.stream here front (λ (t : one.State). Declines t c.args.room c.args.chunk (length c.args.user_data.now) (says (refuse (number c.in_err-asked.field-0.0)) false)) (rw c.in_err-asked.was at c.ask-asked.ensures.asks c.args.pool.now)))
 
 pub keep-requires : goal.keep-requires
 keep-requires c =
@@ -63,7 +63,7 @@ keep-requires c =
     let full : length of.rows ≡ frags_most = rows_long frags_most c.args.table.now (search rules) in
     let here : c.args.stream < streams_most = search rules in
     let front : c.among_front-place.result.queue ≡ among_none of.queues c.args.stream = c.among_front-place.ensures.queue_value in
-    let keeps : Keeps (among of c.args.stream 0 0) c.args.room c.args.chunk (length c.args.user_data.now) c.in-Some.set.at c.in-Some.set.run = asks_front of ok full c.args.stream here front (λ (t : one.State). Keeps t c.args.room c.args.chunk (length c.args.user_data.now) c.in-Some.set.at c.in-Some.set.run) (rw c.in-Some.is at c.in_ok-set.ensures c.args.pool.now) in
+    let keeps : Keeps (among of c.args.stream 0 0) c.args.room c.args.chunk (length c.args.user_data.now) c.ask-asked.result.set.at c.ask-asked.result.set.run = asks_front of ok full c.args.stream here front (λ (t : one.State). Keeps t c.args.room c.args.chunk (length c.args.user_data.now) c.ask-asked.result.set.at c.ask-asked.result.set.run) (rw (c.in_ok-asked.was, c.if-not-branch.false) at c.ask-asked.ensures.asks c.args.pool.now) in
     let roomy : roomy_if c.args.room of (length c.args.user_data.now) = search rules in
     let sized : length c.args.table.now ≡ 4 * frags_most = search rules in
     let room = roomy keeps.with_room in
@@ -79,22 +79,21 @@ keep-requires c =
       run_value = keeps.run_is;
     }
 
-pub returns-in-Some : goal.returns-in-Some
-returns-in-Some c =
+pub returns : goal.returns
+returns c =
     let of = state_of c.args.streams.now c.args.table.now c.args.pool.now in
     let ok : Sound of = sound of (search rules) in
     let full : length of.rows ≡ frags_most = rows_long frags_most c.args.table.now (search rules) in
     let here : c.args.stream < streams_most = search rules in
     let front : c.among_front-place.result.queue ≡ among_none of.queues c.args.stream = c.among_front-place.ensures.queue_value in
-    let keeps : Keeps (among of c.args.stream 0 0) c.args.room c.args.chunk (length c.args.user_data.now) c.in-Some.set.at c.in-Some.set.run = asks_front of ok full c.args.stream here front (λ (t : one.State). Keeps t c.args.room c.args.chunk (length c.args.user_data.now) c.in-Some.set.at c.in-Some.set.run) (rw c.in-Some.is at c.in_ok-set.ensures c.args.pool.now) in
     c.keep.ensures
-    ∙ ap (laid of c.args.stream) (kept-is of ok full c.args.stream here c.args.room c.args.chunk c.args.user_data.now keeps)
+    ∙ ap (laid of c.args.stream) (kept-is of ok full c.args.stream here c.args.room c.args.chunk c.args.user_data.now (asks_front of ok full c.args.stream here front (λ (t : one.State). Keeps t c.args.room c.args.chunk (length c.args.user_data.now) c.ask-asked.result.set.at c.ask-asked.result.set.run) (rw (c.in_ok-asked.was, c.if-not-branch.false) at c.ask-asked.ensures.asks c.args.pool.now)))
 
-pub returns-in-None : goal.returns-in-None
-returns-in-None c =
+pub returns-then-not-branch : goal.returns-then-not-branch
+returns-then-not-branch c =
     let of = state_of c.args.streams.now c.args.table.now c.args.pool.now in
     let ok : Sound of = sound of (search rules) in
     let full : length of.rows ≡ frags_most = rows_long frags_most c.args.table.now (search rules) in
     let here : c.args.stream < streams_most = search rules in
     let front : c.among_front-place.result.queue ≡ among_none of.queues c.args.stream = c.among_front-place.ensures.queue_value in
-    away of ok full c.args.stream here c.args.room c.args.chunk c.args.user_data.now (asks_front of ok full c.args.stream here front (λ (t : one.State). Declines t c.args.room c.args.chunk (length c.args.user_data.now) (says none false)) (rw c.in-None.is at c.in_ok-set.ensures c.args.pool.now))
+    away of ok full c.args.stream here c.args.room c.args.chunk c.args.user_data.now (asks_front of ok full c.args.stream here front (λ (t : one.State). Declines t c.args.room c.args.chunk (length c.args.user_data.now) (says none false)) (rw (c.in_ok-asked.was, c.if-not-branch.true) at c.ask-asked.ensures.asks c.args.pool.now))
