@@ -1,2 +1,3 @@
+pub mod Flip
 pub mod Shifted
 pub mod Turned
