@@ -4,12 +4,13 @@ use mathlib.Core.Path.{◌≡◌, refl, sym, ap, ◌∙◌}
 use mathlib.Core.Bool.{Bool, true, false, ◌||◌, cond, or-false, true≢false}
 use mathlib.Core.List.{List, [], ◌∷◌, ◌++◌, append-nil}
 use Prim.Native.Nat.{ℕ, zero, suc, ◌+◌, ◌-◌, ◌*◌, ◌<◌, ◌≤◌}
+use native.Mathlib.Decide.{dec_le}
 use native.Mathlib.Nat.{mod-lt}
 use native.Mathlib.Numerals.{add-one}
 use native.Mathlib.Omega.{arith}
 use lib.Dec.{ltb}
-use lib.ListN.{length, get_or, take, drop, set, length-append, length-take, length-drop}
-use lib.Seq.{length-take-le, take-suc, get_or-drop, get_or-append-add, take_at}
+use lib.ListN.{length, get_or, take, drop, set, length-append, length-take, length-drop, get_or-replicate, get_or-eq_default}
+use lib.Seq.{length-take-le, take_all, set-get_or, take-suc, get_or-drop, get_or-append-add, take_at}
 use borrow.Author.Tests.{ltb-false, eqb-true, not-false}
 use Rattle.wire_model.specs.BigEndian.{over}
 use Rattle.wire_model.specs.Facts.{over-snoc}
@@ -18,7 +19,7 @@ use Rattle.moves_model.specs.Lists.{gone}
 use Rattle.table.specs.Rows.{blank, total, some, kept, short_length}
 use Rattle.table.specs.declared.Row.{Row}
 use Rattle.payload_model.specs.Limits.{tsns_most, log_most}
-use Rattle.payload_model.specs.Queue.{Queue, held, unsound, row_of, left}
+use Rattle.payload_model.specs.Queue.{Queue, held, unsound, row_of, left, zeros}
 
 -- ── a sound queue ──
 
@@ -118,6 +119,19 @@ module _ {p : Row → Bool} {rows₀ rows : List Row} {n left i : ℕ} (k : Kept
       let old : get_or rows₀ i blank ≡ r = sym keep_read ∙ sym e in
       let next : kept p (take (i + 1) rows₀) ≡ kept p (take i rows₀) = rw (more, kept-snoc, old, q, append-nil) in
       record { fit = k.fit; within = omega arith; few = omega (arith, k.few); count = rw next k.count; is = rw next k.is }
+
+-- ── the log, handed out place by place ──
+
+pub hand_turn : (log : List ℕ) (i : ℕ) → i < log_most → set (over zeros (take i log)) i (get_or log i 0) ≡ over zeros (take (i + 1) log)
+hand_turn log i h = go (dec_le (suc i) (length log))
+  where
+    go : Dec (suc i ≤ length log) → set (over zeros (take i log)) i (get_or log i 0) ≡ over zeros (take (i + 1) log)
+    go (yes k) = rw (add-one, take-suc log i 0 k) (over-snoc 0 zeros (take i log) (get_or log i 0) i (length-take-le i log (omega arith)) (omega arith))
+    go (no k) =
+        let short : length log ≤ i = omega arith in
+        let blank-there : get_or (over zeros log) i 0 ≡ 0 = over-rest 0 zeros log i short (omega arith) ∙ get_or-replicate {A = ℕ} log_most i 0 0 h in
+        let same : get_or log i 0 ≡ get_or (over zeros log) i 0 = get_or-eq_default {A = ℕ} log 0 short ∙ sym blank-there in
+        rw (take_all i log short, take_all (i + 1) log (omega arith), same) (set-get_or (over zeros log) i 0)
 
 -- ── the first record ──
 

@@ -12,8 +12,7 @@ ghost use Rattle.reassembly_queue.specs.Queue.{state_of, fresh};
 
 use chunks::Chunks;
 use data_fields::ChunkPayloadData;
-use reassembly_state::Counts;
-pub use reassembly_state::{BYTES, FRAGMENTS, WORDS};
+pub use reassembly_state::{BYTES, Counts, FRAGMENTS, WORDS};
 use refusal::Refusal;
 
 // The counts; the records stand in the lent table and their bytes in the lent pool: finished unordered messages, oldest first, then loose
