@@ -2,7 +2,10 @@
 // more is read behind it.
 #![tactic(auto)]
 
-ghost use Rattle.std.specs.Prelude.{◌≤◌, length, IfOk};
+ghost use Rattle.std.specs.Prelude.{◌≡◌, ◌≤◌, length, drop, IfOk};
+ghost use Rattle.std.specs.Io.{StartsWith};
+ghost use Rattle.wire_model.specs.BigEndian.{over};
+ghost use Rattle.moves_model.specs.Lists.{slice};
 
 use std::io;
 use std::io::{ErrorKind, Read};
@@ -33,13 +36,13 @@ impl Window {
         }
     }
 
-    // Reads on, where the next call or record may not stand whole.
-    pub fn fill<R: Read>(&mut self, reader: &mut R) -> io::Result<()> {
+    // Reads on, where the next call or record may not stand whole. What was not used stands in front of what was read, also where a read failed.
+    pub fn fill<R: Read>(&mut self, reader: &mut R) -> io::Result<()>
+        ensures { StartsWith (slice self.new.from self.new.to self.new.bytes) (slice self.old.from self.old.to self.old.bytes) }
+    {
         if !self.ended && self.to - self.from < LONGEST {
-            self.bytes.copy_within(self.from..self.to, 0);
-            let left = self.to - self.from;
-            self.from = 0;
-            self.to = left;
+            self.shift();
+            let left = self.to;
             let more = read_full(reader, &mut self.bytes[left..])?;
             self.to = left + more;
             self.ended = left + more < SIZE;
@@ -47,13 +50,29 @@ impl Window {
         Ok(())
     }
 
+    // What is not used yet goes to the front.
+    fn shift(&mut self)
+        ensures bytes { self.new.bytes ≡ over self.old.bytes (slice self.old.from self.old.to self.old.bytes) }
+        ensures from { self.new.from ≡ 0 }
+        ensures to { self.new.to ≡ length (slice self.old.from self.old.to self.old.bytes) }
+        ensures ended { self.new.ended ≡ self.old.ended }
+    {
+        self.bytes.copy_within(self.from..self.to, 0);
+        self.to -= self.from;
+        self.from = 0;
+    }
+
     // A whole call or record, with what stands behind it; or all that is left.
-    pub fn rest(&self) -> &[u8] {
+    pub fn rest(&self) -> &[u8]
+        ensures { result.now ≡ slice self.now.from self.now.to self.now.bytes }
+    {
         &self.bytes[self.from..self.to]
     }
 
     // So many bytes are used.
-    pub fn consume(&mut self, n: usize) {
+    pub fn consume(&mut self, n: usize)
+        ensures { slice self.new.from self.new.to self.new.bytes ≡ drop n (slice self.old.from self.old.to self.old.bytes) }
+    {
         self.from = self.from.saturating_add(n).min(self.to);
     }
 }

@@ -2,10 +2,7 @@
 #![tactic(auto)]
 
 use std::io;
-use std::io::{BufWriter, Write};
 
 fn main(rt: HostRuntime) -> io::Result<()> {
-    let mut out = BufWriter::new(rt.alloc(), rt.stdout())?;
-    replay_stream::run(&mut rt.stdin(), &mut out, 3)?;
-    out.flush()
+    replay_stream::run(&mut rt.stdin(), &mut rt.stdout(), 3)
 }
