@@ -4,7 +4,6 @@ use answer_text::fault::{Fault, Malformed};
 use answer_text::operands::{BYTES, Operands};
 use answer_text::shown::Bytes;
 use chunks::Chunks;
-use std::alloc::Global;
 use std::io::Write;
 
 // The message, if there is one, its buffer, and how many bytes of that are lent.
@@ -29,13 +28,12 @@ impl Hand {
         &mut self,
         number: u8,
         call: &mut Operands<'_>,
-        alloc: Global,
         out: &mut W,
     ) -> Result<(), Fault> {
         match number {
             48 => write!(out, "{}", self.len())?,
             49 => write!(out, "{}", self.is_empty())?,
-            50 => self.read(call, alloc, out)?,
+            50 => self.read(call, out)?,
             51 => self.next(call, out)?,
             52 => write!(out, "{}", self.forge(call)?)?,
             _ => return Err(Fault::Malformed),
@@ -78,17 +76,13 @@ impl Hand {
     }
 
     // The whole read, into as much room as the call says, all of which stands behind the answer.
-    fn read<W: Write>(
-        &self,
-        call: &mut Operands<'_>,
-        alloc: Global,
-        out: &mut W,
-    ) -> Result<(), Fault> {
-        let mut room = call.room(alloc)?;
+    fn read<W: Write>(&self, call: &mut Operands<'_>, out: &mut W) -> Result<(), Fault> {
+        let mut room = [0u8; BYTES];
+        let room = call.room(&mut room)?;
         match self.message {
             Some(message) => {
-                let answer = Answer::from(message.read(self.lent(), room.as_mut_slice()));
-                write!(out, "{answer} {}", Bytes(room.as_slice()))?;
+                let answer = Answer::from(message.read(self.lent(), room));
+                write!(out, "{answer} {}", Bytes(room))?;
             }
             None => write!(out, "{}", Answer::NothingInHand)?,
         }

@@ -5,10 +5,9 @@ use crate::rows::Rows;
 use answer_text::answer::Answer;
 use answer_text::digest;
 use answer_text::fault::{Fault, Malformed};
-use answer_text::operands::Operands;
+use answer_text::operands::{BYTES, Operands};
 use answer_text::shown::Bytes;
 use reassembly_queue::{ReassemblyQueue, WORDS};
-use std::alloc::Global;
 use std::io;
 use std::io::Write;
 
@@ -41,15 +40,14 @@ impl Fragments {
         &mut self,
         number: u8,
         call: &mut Operands<'_>,
-        alloc: Global,
         out: &mut W,
     ) -> Result<(), Fault> {
         match number {
-            33 => write!(out, "{}", self.push(call, alloc)?)?,
+            33 => write!(out, "{}", self.push(call)?)?,
             35 => self.read(call, out)?,
             39 => self.state(out)?,
             41 => self.whole(out)?,
-            48..=52 => self.hand.answer(number, call, alloc, out)?,
+            48..=52 => self.hand.answer(number, call, out)?,
             _ => write!(out, "{}", self.told(number, call)?)?,
         }
         Ok(())
@@ -87,14 +85,12 @@ impl Fragments {
         }
     }
 
-    fn push(&mut self, call: &mut Operands<'_>, alloc: Global) -> Result<Answer, Fault> {
+    fn push(&mut self, call: &mut Operands<'_>) -> Result<Answer, Malformed> {
         let chunk = call.fields()?;
-        let user = call.user_data(alloc)?;
+        let mut user = [0u8; BYTES];
+        let user = call.user_data(&mut user)?;
         let pool = hand::first_mut(&mut self.pool, self.lent);
-        let pushed = self
-            .queue
-            .push(&mut self.table, pool, chunk, user.as_slice());
-        Ok(pushed.into())
+        Ok(self.queue.push(&mut self.table, pool, chunk, user).into())
     }
 
     // The skips, and FORWARD TSN applied.

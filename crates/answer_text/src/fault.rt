@@ -1,12 +1,11 @@
 // Why a call is not answered.
-use std::alloc::AllocError;
 use std::io;
 
 // It is no call of docs/CALLS.md, or not all of it stands there.
 #[derive(Clone, Copy, Debug)]
 pub struct Malformed;
 
-// The same, or there is no memory for it, or its line cannot be written.
+// The same, or its line cannot be written.
 #[derive(Debug, Drop)]
 pub enum Fault {
     Malformed,
@@ -22,11 +21,5 @@ impl From<Malformed> for Fault {
 impl From<io::Error> for Fault {
     fn from(error: io::Error) -> Fault {
         Fault::Io(error)
-    }
-}
-
-impl From<AllocError> for Fault {
-    fn from(error: AllocError) -> Fault {
-        Fault::Io(io::Error::from(error))
     }
 }

@@ -1,9 +1,8 @@
 // The operands of a call, in their order; what docs/CALLS.md says of one is tested as it is read.
 ghost use Rattle.std.specs.Prelude.{◌≤◌, IfOk};
 
-use crate::fault::{Fault, Malformed};
+use crate::fault::Malformed;
 use data_fields::ChunkPayloadData;
-use std::alloc::Global;
 
 // The most bytes of a raw, of patterned data, or of a lent buffer.
 pub const BYTES: usize = 65600;
@@ -64,40 +63,45 @@ impl<'a> Operands<'a> {
         Ok(chunk(flags, tsn, stream, ssn, self.u32()?))
     }
 
-    // Patterned data.
-    pub fn user_data(&mut self, alloc: Global) -> Result<Vec<u8>, Fault> {
+    // Patterned data, at the front of what is lent for them.
+    pub fn user_data<'b>(&mut self, room: &'b mut [u8; BYTES]) -> Result<&'b [u8], Malformed> {
         let n = self.size()?;
         let seed = self.u8()?;
-        Ok((0..n).map(|i| patterned(seed, i)).collect(alloc)?)
+        let data = &mut room[..n];
+        for (i, byte) in data.iter_mut().enumerate() {
+            *byte = patterned(seed, i);
+        }
+        Ok(data)
     }
 
-    pub fn shorts(&mut self, alloc: Global) -> Result<Vec<u16>, Fault> {
+    // The numbers of a list, at the front of what is lent for them.
+    pub fn shorts<'b>(&mut self, list: &'b mut [u16; NUMBERS]) -> Result<&'b [u16], Malformed> {
         let n = self.places(NUMBERS)?;
         let (numbers, _) = self.bytes(2 * n)?.as_chunks::<2>();
-        Ok(
-            numbers
-                .iter()
-                .map(|b| u16::from_be_bytes(*b))
-                .collect(alloc)?,
-        )
+        let list = &mut list[..n];
+        for (place, number) in list.iter_mut().zip(numbers) {
+            *place = u16::from_be_bytes(*number);
+        }
+        Ok(list)
     }
 
-    pub fn words(&mut self, alloc: Global) -> Result<Vec<u32>, Fault> {
+    pub fn words<'b>(&mut self, list: &'b mut [u32; NUMBERS]) -> Result<&'b [u32], Malformed> {
         let n = self.places(NUMBERS)?;
         let (numbers, _) = self.bytes(4 * n)?.as_chunks::<4>();
-        Ok(
-            numbers
-                .iter()
-                .map(|b| u32::from_be_bytes(*b))
-                .collect(alloc)?,
-        )
+        let list = &mut list[..n];
+        for (place, number) in list.iter_mut().zip(numbers) {
+            *place = u32::from_be_bytes(*number);
+        }
+        Ok(list)
     }
 
     // A lent buffer: so many bytes, each of which is what follows.
-    pub fn room(&mut self, alloc: Global) -> Result<Vec<u8>, Fault> {
+    pub fn room<'b>(&mut self, room: &'b mut [u8; BYTES]) -> Result<&'b mut [u8], Malformed> {
         let n = self.size()?;
         let fill = self.u8()?;
-        Ok(vec![in alloc; fill; n]?)
+        let lent = &mut room[..n];
+        lent.fill(fill);
+        Ok(lent)
     }
 
     // How many places a lent or given list has.
@@ -108,7 +112,9 @@ impl<'a> Operands<'a> {
     }
 
     // How many bytes.
-    pub fn size(&mut self) -> Result<usize, Malformed> {
+    pub fn size(&mut self) -> Result<usize, Malformed>
+        ensures { IfOk result (λ n. n ≤ 65600) }
+    {
         at_most(self.u32()? as usize, BYTES)
     }
 
@@ -123,6 +129,14 @@ impl<'a> Operands<'a> {
         self.rest = rest;
         Ok(*first)
     }
+}
+
+// A lent list: so many places at the front, each of which is this number.
+pub fn lent(list: &mut [u16], n: usize, fill: u16) -> &mut [u16] {
+    let n = n.min(list.len());
+    let lent = &mut list[..n];
+    lent.fill(fill);
+    lent
 }
 
 fn at_most(n: usize, most: usize) -> Result<usize, Malformed>

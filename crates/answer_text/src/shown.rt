@@ -1,4 +1,6 @@
 // How bytes, flags, marks and lists stand in an answer.
+ghost use Rattle.std.specs.Prelude.{◌≤◌};
+
 use data_fields::ChunkPayloadData;
 use std::fmt;
 
@@ -18,10 +20,7 @@ impl<'a> fmt::Display for Bytes<'a> {
         for part in self.0.chunks(AT_ONCE) {
             let room = &mut digits[..2 * part.len().min(AT_ONCE)];
             let _ = hex::encode_to_slice(part, room);
-            match str::from_utf8(room) {
-                Ok(text) => f.write_str(text)?,
-                Err(_) => return Err(fmt::Error),
-            }
+            write_digits(f, room)?;
         }
         Ok(())
     }
@@ -31,12 +30,39 @@ impl<'a> fmt::Display for Bytes<'a> {
 #[derive(Clone, Copy)]
 pub struct Numbers<'a, T>(pub &'a [T]);
 
-impl<'a, T: fmt::Display> fmt::Display for Numbers<'a, T> {
+// So many numbers are spelt at once. Each by itself takes three times as long.
+const NUMBERS_AT_ONCE: usize = 32;
+
+// The longest number has 20 digits, and a space in front.
+const ROOM: usize = 21 * NUMBERS_AT_ONCE;
+
+impl<'a, T: Copy + Into<u64>> fmt::Display for Numbers<'a, T> {
     fn fmt<W: fmt::Write>(&self, f: &mut fmt::Formatter<W>) -> fmt::Result {
-        for n in self.0 {
-            write!(f, " {n}")?;
+        let mut room = [0u8; ROOM];
+        for part in self.0.chunks(NUMBERS_AT_ONCE) {
+            let at = spell(part, &mut room);
+            write_digits(f, &room[at..])?;
         }
         Ok(())
+    }
+}
+
+// Puts the first of these numbers at the end of the room, the last one first, each behind a space; where they begin.
+fn spell<T: Copy + Into<u64>>(numbers: &[T], room: &mut [u8; ROOM]) -> usize
+    ensures { result ≤ 672 }
+{
+    let mut at = ROOM;
+    for i in (0..numbers.len().min(NUMBERS_AT_ONCE)).rev() {
+        at = itoa::write_digits(numbers[i].into(), room, at) - 1;
+        room[at] = b' ';
+    }
+    at
+}
+
+fn write_digits<W: fmt::Write>(f: &mut fmt::Formatter<W>, digits: &[u8]) -> fmt::Result {
+    match str::from_utf8(digits) {
+        Ok(text) => f.write_str(text),
+        Err(_) => Err(fmt::Error),
     }
 }
 

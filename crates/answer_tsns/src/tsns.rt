@@ -3,11 +3,10 @@ use crate::rows::Row;
 use answer_text::answer::Answer;
 use answer_text::digest;
 use answer_text::fault::{Fault, Malformed};
-use answer_text::operands::{NUMBERS, Operands};
+use answer_text::operands::{NUMBERS, Operands, lent};
 use answer_text::shown::Numbers;
 use payload_queue::{LOG, PayloadQueue, Queued, TSNS, WORDS};
 use refusal::Refusal;
-use std::alloc::Global;
 use std::io;
 use std::io::Write;
 
@@ -30,12 +29,11 @@ impl Tsns {
         &mut self,
         number: u8,
         call: &mut Operands<'_>,
-        alloc: Global,
         out: &mut W,
     ) -> Result<(), Fault> {
         match number {
             22 => self.log(out)?,
-            23 => self.gaps(call, alloc, out)?,
+            23 => self.gaps(call, out)?,
             29 => self.state(out)?,
             31 => self.whole(out)?,
             _ => {
@@ -102,32 +100,25 @@ impl Tsns {
                 let tsns = log.tsns;
                 write!(out, "log {}{}", log.count, Numbers(&tsns))
             }
-            Err(refusal) => write!(out, "{refusal}{}", Numbers(&[0; LOG])),
+            Err(refusal) => write!(out, "{refusal}{}", Numbers(&[0u32; LOG])),
         }
     }
 
     // The number of blocks of the gap report, or the refusal, and as much of both lists as the call lends.
-    fn gaps<W: Write>(
-        &self,
-        call: &mut Operands<'_>,
-        alloc: Global,
-        out: &mut W,
-    ) -> Result<(), Fault> {
+    fn gaps<W: Write>(&self, call: &mut Operands<'_>, out: &mut W) -> Result<(), Fault> {
         let cumulative = call.u32()?;
         let n = call.places(NUMBERS)?;
         let m = call.places(NUMBERS)?;
         let fill = call.u16()?;
-        let mut starts = vec![in alloc; fill; n]?;
-        let mut ends = vec![in alloc; fill; m]?;
-        let told = self.queue.get_gap_ack_blocks(
-            &self.table,
-            cumulative,
-            starts.as_mut_slice(),
-            ends.as_mut_slice(),
-        );
+        let (mut starts, mut ends) = ([0; NUMBERS], [0; NUMBERS]);
+        let starts = lent(&mut starts, n, fill);
+        let ends = lent(&mut ends, m, fill);
+        let told = self
+            .queue
+            .get_gap_ack_blocks(&self.table, cumulative, starts, ends);
         let answer = told.map_or_else(Answer::Refused, Answer::Blocks);
-        write!(out, "{answer} starts{}", Numbers(starts.as_slice()))?;
-        write!(out, " ends{}", Numbers(ends.as_slice()))?;
+        write!(out, "{answer} starts{}", Numbers(starts))?;
+        write!(out, " ends{}", Numbers(ends))?;
         Ok(())
     }
 

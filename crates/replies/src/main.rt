@@ -15,7 +15,7 @@ use std::io::{Read, Write};
 const LINE: usize = 250000;
 
 fn main(rt: HostRuntime) -> io::Result<()> {
-    let mut receiver = Receiver::new(rt.alloc());
+    let mut receiver = Receiver::new();
     stream(&mut receiver, &mut rt.stdin(), &mut rt.stdout())
 }
 

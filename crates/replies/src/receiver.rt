@@ -4,22 +4,19 @@ use answer_text::fault::Fault;
 use answer_text::operands::Operands;
 use answer_tsns::flight::Flight;
 use answer_tsns::tsns::Tsns;
-use std::alloc::Global;
 use std::io;
 use std::io::Write;
 
 #[derive(Clone, Copy)]
 pub struct Receiver {
-    alloc: Global,
     tsns: Tsns,
     flight: Flight,
     fragments: Fragments,
 }
 
 impl Receiver {
-    pub fn new(alloc: Global) -> Receiver {
+    pub fn new() -> Receiver {
         Receiver {
-            alloc,
             tsns: Tsns::new(),
             flight: Flight::new(),
             fragments: Fragments::new(),
@@ -28,13 +25,12 @@ impl Receiver {
 
     // Does the call that the stream goes on with, and writes its line.
     pub fn answer<W: Write>(&mut self, call: &mut Operands<'_>, out: &mut W) -> Result<(), Fault> {
-        let alloc = self.alloc;
         let number = call.u8()?;
         match number {
-            16..=31 | 57 => self.tsns.answer(number, call, alloc, out)?,
-            32..=43 | 48..=52 | 58 => self.fragments.answer(number, call, alloc, out)?,
+            16..=31 | 57 => self.tsns.answer(number, call, out)?,
+            32..=43 | 48..=52 | 58 => self.fragments.answer(number, call, out)?,
             69..=82 => self.flight.answer(number, call, out)?,
-            _ => answer_codecs::answer(number, call, alloc, out)?,
+            _ => answer_codecs::answer(number, call, out)?,
         }
         writeln!(out)?;
         Ok(())
