@@ -2,22 +2,26 @@
 use answer_text::answer::Answer;
 use answer_text::fault::Fault;
 use answer_text::operands::{CAUSES, Operands, lent};
+use answer_text::rooms::Rooms;
 use answer_text::shown::Numbers;
 use std::io::Write;
 
-pub fn answer<W: Write>(number: u8, call: &mut Operands<'_>, out: &mut W) -> Result<(), Fault> {
+pub fn answer<W: Write>(
+    number: u8,
+    call: &mut Operands<'_>,
+    rooms: &mut Rooms,
+    out: &mut W,
+) -> Result<(), Fault> {
     let raw = call.raw()?;
     let n = call.places(CAUSES)?;
     let m = call.places(CAUSES)?;
     let k = call.places(CAUSES)?;
     let l = call.places(CAUSES)?;
     let fill = call.u16()?;
-    let (mut codes, mut depths) = ([0; CAUSES], [0; CAUSES]);
-    let (mut starts, mut sizes) = ([0; CAUSES], [0; CAUSES]);
-    let codes = lent(&mut codes, n, fill);
-    let depths = lent(&mut depths, m, fill);
-    let starts = lent(&mut starts, k, fill);
-    let sizes = lent(&mut sizes, l, fill);
+    let codes = lent(&mut rooms.first, n, fill);
+    let depths = lent(&mut rooms.second, m, fill);
+    let starts = lent(&mut rooms.third, k, fill);
+    let sizes = lent(&mut rooms.fourth, l, fill);
     let told = if number == 65 {
         chunk_error::unmarshal(raw, codes, depths, starts, sizes)
     } else {

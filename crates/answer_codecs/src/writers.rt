@@ -2,17 +2,28 @@
 use answer_text::answer::Answer;
 use answer_text::fault::{Fault, Malformed};
 use answer_text::operands::{BYTES, NUMBERS, Operands};
+use answer_text::rooms::Rooms;
 use answer_text::shown::Bytes;
 use refusal::Refusal;
 use std::io::Write;
 
-pub fn answer<W: Write>(number: u8, call: &mut Operands<'_>, out: &mut W) -> Result<(), Fault> {
-    let mut room = [0u8; BYTES];
-    let lent = call.room(&mut room)?;
+pub fn answer<W: Write>(
+    number: u8,
+    call: &mut Operands<'_>,
+    rooms: &mut Rooms,
+    out: &mut W,
+) -> Result<(), Fault> {
+    let lent = call.room(&mut rooms.buffer)?;
     let wrote = match number {
-        8 => data(call, lent)?,
-        14 => sack(call, lent)?,
-        56 => forward(call, lent)?,
+        8 => data(call, &mut rooms.data, lent)?,
+        14 => sack(
+            call,
+            &mut rooms.first,
+            &mut rooms.second,
+            &mut rooms.words,
+            lent,
+        )?,
+        56 => forward(call, &mut rooms.first, &mut rooms.second, lent)?,
         64 => packet(call, lent)?,
         _ => return Err(Fault::Malformed),
     };
@@ -21,29 +32,40 @@ pub fn answer<W: Write>(number: u8, call: &mut Operands<'_>, out: &mut W) -> Res
     Ok(())
 }
 
-fn data(call: &mut Operands<'_>, lent: &mut [u8]) -> Result<Result<usize, Refusal>, Malformed> {
+fn data(
+    call: &mut Operands<'_>,
+    user: &mut [u8; BYTES],
+    lent: &mut [u8],
+) -> Result<Result<usize, Refusal>, Malformed> {
     let chunk = call.fields()?;
-    let mut user = [0u8; BYTES];
-    let user = call.user_data(&mut user)?;
+    let user = call.user_data(user)?;
     Ok(chunk_payload_data::marshal_to(lent, chunk, user))
 }
 
-fn sack(call: &mut Operands<'_>, lent: &mut [u8]) -> Result<Result<usize, Refusal>, Malformed> {
+fn sack(
+    call: &mut Operands<'_>,
+    starts: &mut [u16; NUMBERS],
+    ends: &mut [u16; NUMBERS],
+    duplicates: &mut [u32; NUMBERS],
+    lent: &mut [u8],
+) -> Result<Result<usize, Refusal>, Malformed> {
     let cumulative = call.u32()?;
     let window = call.u32()?;
-    let (mut starts, mut ends) = ([0u16; NUMBERS], [0u16; NUMBERS]);
-    let mut duplicates = [0u32; NUMBERS];
-    let starts = call.shorts(&mut starts)?;
-    let ends = call.shorts(&mut ends)?;
-    let duplicates = call.words(&mut duplicates)?;
+    let starts = call.shorts(starts)?;
+    let ends = call.shorts(ends)?;
+    let duplicates = call.words(duplicates)?;
     Ok(chunk_selective_ack::marshal_to(lent, cumulative, window, starts, ends, duplicates))
 }
 
-fn forward(call: &mut Operands<'_>, lent: &mut [u8]) -> Result<Result<usize, Refusal>, Malformed> {
+fn forward(
+    call: &mut Operands<'_>,
+    streams: &mut [u16; NUMBERS],
+    ssns: &mut [u16; NUMBERS],
+    lent: &mut [u8],
+) -> Result<Result<usize, Refusal>, Malformed> {
     let point = call.u32()?;
-    let (mut streams, mut ssns) = ([0u16; NUMBERS], [0u16; NUMBERS]);
-    let streams = call.shorts(&mut streams)?;
-    let ssns = call.shorts(&mut ssns)?;
+    let streams = call.shorts(streams)?;
+    let ssns = call.shorts(ssns)?;
     Ok(chunk_forward_tsn::marshal_to(lent, point, streams, ssns))
 }
 

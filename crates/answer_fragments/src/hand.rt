@@ -2,6 +2,7 @@
 use answer_text::answer::Answer;
 use answer_text::fault::{Fault, Malformed};
 use answer_text::operands::{BYTES, Operands};
+use answer_text::rooms::Rooms;
 use answer_text::shown::Bytes;
 use chunks::Chunks;
 use std::io::Write;
@@ -28,12 +29,13 @@ impl Hand {
         &mut self,
         number: u8,
         call: &mut Operands<'_>,
+        rooms: &mut Rooms,
         out: &mut W,
     ) -> Result<(), Fault> {
         match number {
             48 => write!(out, "{}", self.len())?,
             49 => write!(out, "{}", self.is_empty())?,
-            50 => self.read(call, out)?,
+            50 => self.read(call, rooms, out)?,
             51 => self.next(call, out)?,
             52 => write!(out, "{}", self.forge(call)?)?,
             _ => return Err(Fault::Malformed),
@@ -76,9 +78,13 @@ impl Hand {
     }
 
     // The whole read, into as much room as the call says, all of which stands behind the answer.
-    fn read<W: Write>(&self, call: &mut Operands<'_>, out: &mut W) -> Result<(), Fault> {
-        let mut room = [0u8; BYTES];
-        let room = call.room(&mut room)?;
+    fn read<W: Write>(
+        &self,
+        call: &mut Operands<'_>,
+        rooms: &mut Rooms,
+        out: &mut W,
+    ) -> Result<(), Fault> {
+        let room = call.room(&mut rooms.buffer)?;
         match self.message {
             Some(message) => {
                 let answer = Answer::from(message.read(self.lent(), room));

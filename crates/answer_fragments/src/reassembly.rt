@@ -5,7 +5,8 @@ use crate::rows::Rows;
 use answer_text::answer::Answer;
 use answer_text::digest;
 use answer_text::fault::{Fault, Malformed};
-use answer_text::operands::{BYTES, Operands};
+use answer_text::operands::Operands;
+use answer_text::rooms::Rooms;
 use answer_text::shown::Bytes;
 use reassembly_queue::{ReassemblyQueue, WORDS};
 use std::io;
@@ -40,14 +41,15 @@ impl Fragments {
         &mut self,
         number: u8,
         call: &mut Operands<'_>,
+        rooms: &mut Rooms,
         out: &mut W,
     ) -> Result<(), Fault> {
         match number {
-            33 => write!(out, "{}", self.push(call)?)?,
+            33 => write!(out, "{}", self.push(call, rooms)?)?,
             35 => self.read(call, out)?,
             39 => self.state(out)?,
             41 => self.whole(out)?,
-            48..=52 => self.hand.answer(number, call, out)?,
+            48..=52 => self.hand.answer(number, call, rooms, out)?,
             _ => write!(out, "{}", self.told(number, call)?)?,
         }
         Ok(())
@@ -85,10 +87,9 @@ impl Fragments {
         }
     }
 
-    fn push(&mut self, call: &mut Operands<'_>) -> Result<Answer, Malformed> {
+    fn push(&mut self, call: &mut Operands<'_>, rooms: &mut Rooms) -> Result<Answer, Malformed> {
         let chunk = call.fields()?;
-        let mut user = [0u8; BYTES];
-        let user = call.user_data(&mut user)?;
+        let user = call.user_data(&mut rooms.data)?;
         let pool = hand::first_mut(&mut self.pool, self.lent);
         Ok(self.queue.push(&mut self.table, pool, chunk, user).into())
     }

@@ -5,4 +5,5 @@ pub mod answer;
 pub mod digest;
 pub mod fault;
 pub mod operands;
+pub mod rooms;
 pub mod shown;

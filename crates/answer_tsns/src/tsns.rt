@@ -4,6 +4,7 @@ use answer_text::answer::Answer;
 use answer_text::digest;
 use answer_text::fault::{Fault, Malformed};
 use answer_text::operands::{NUMBERS, Operands, lent};
+use answer_text::rooms::Rooms;
 use answer_text::shown::Numbers;
 use payload_queue::{LOG, PayloadQueue, Queued, TSNS, WORDS};
 use refusal::Refusal;
@@ -29,11 +30,12 @@ impl Tsns {
         &mut self,
         number: u8,
         call: &mut Operands<'_>,
+        rooms: &mut Rooms,
         out: &mut W,
     ) -> Result<(), Fault> {
         match number {
             22 => self.log(out)?,
-            23 => self.gaps(call, out)?,
+            23 => self.gaps(call, rooms, out)?,
             29 => self.state(out)?,
             31 => self.whole(out)?,
             _ => {
@@ -105,14 +107,18 @@ impl Tsns {
     }
 
     // The number of blocks of the gap report, or the refusal, and as much of both lists as the call lends.
-    fn gaps<W: Write>(&self, call: &mut Operands<'_>, out: &mut W) -> Result<(), Fault> {
+    fn gaps<W: Write>(
+        &self,
+        call: &mut Operands<'_>,
+        rooms: &mut Rooms,
+        out: &mut W,
+    ) -> Result<(), Fault> {
         let cumulative = call.u32()?;
         let n = call.places(NUMBERS)?;
         let m = call.places(NUMBERS)?;
         let fill = call.u16()?;
-        let (mut starts, mut ends) = ([0; NUMBERS], [0; NUMBERS]);
-        let starts = lent(&mut starts, n, fill);
-        let ends = lent(&mut ends, m, fill);
+        let starts = lent(&mut rooms.first, n, fill);
+        let ends = lent(&mut rooms.second, m, fill);
         let told = self
             .queue
             .get_gap_ack_blocks(&self.table, cumulative, starts, ends);
