@@ -31,12 +31,15 @@ pub fn put_one<T: Copy>(pool: &mut [T], total: usize, at: usize, new: T)
     pool[at] = new;
 }
 
-// The k at an index taken out of the first total. The loop stays: by `copy_within` the first of 4 rows went in 15.5 ns in place of 9.
+// The k at an index taken out of the first total; where that is none, nothing is moved onto itself. The loop stays: by `copy_within` the first of 4 rows went in 15.5 ns in place of 9.
 pub fn close<T: Copy>(pool: &mut [T], total: usize, at: usize, k: usize)
     requires total_in_bounds { total ≤ length pool.old }
     requires k_bound { at + k ≤ total }
     ensures { pool.new ≡ over pool.old (gone at k (take total pool.old)) }
 {
+    if k == 0 {
+        return;
+    }
     for i in at..total - k {
         pool[i] = pool[i + k];
     }

@@ -4,7 +4,7 @@ use mathlib.Core.Path.{◌≡◌, sym, ap, ◌∙◌}
 use mathlib.Core.List.{List, [], ◌∷◌, ◌++◌, append_assoc}
 use Prim.Native.Nat.{ℕ, suc, ◌+◌, ◌-◌, ◌<◌, ◌≤◌}
 use native.Mathlib.Omega.{arith}
-use lib.ListN.{length, get_or, take, drop, set, length-append, length-take, length-drop, get_or-append}
+use lib.ListN.{length, get_or, take, drop, set, length-append, length-take, length-drop, take-append-drop, get_or-append}
 use lib.Seq.{paste, length-take-le, take-append-le, take-take, take-suc, drop_at, drop-drop, drop-cons, get_or-drop, get_or-take, set_at, set_split}
 use Rattle.std.proofs.lemmas.List.{drop-take}
 use Rattle.std.proofs.lemmas.List.Edits.{paste_more, drop-paste}
@@ -77,6 +77,13 @@ module _ {A : Type 0} where
   closed xs total at k h l =
       let n : length (take at xs ++ take (total - (at + k)) (drop (at + k) xs)) ≡ at + (total - (at + k)) = simp (length-append, length-take, length-drop) (omega arith) in
       rw (take-take at total xs (omega arith), part (at + k) total xs h, n)
+
+  -- none taken out
+  pub none_gone : (xs : List A) (total at : ℕ) → total ≤ length xs → xs ≡ over xs (gone at 0 (take total xs))
+  unfolding over gone
+  none_gone xs total at l =
+      let e : at + 0 ≡ at = omega arith in
+      rw (e, take-append-drop at (take total xs), length-take-le total xs l) (sym (take-append-drop total xs))
 
   -- room is made, and what is new is copied there
   pub put_in : (xs new : List A) (total at : ℕ) → at ≤ total → total + length new ≤ length xs → put_mid at (at + length new - at) (copy_within xs at total (at + length new)) new ≡ over xs (put at new (take total xs))

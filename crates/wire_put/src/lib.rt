@@ -36,10 +36,25 @@ pub fn put_u32(out: &mut [u8], x: u32)
     out[3] = (x % 256) as u8;
 }
 
+// How many bytes are copied at once, 31 lines of 64. Of 2,048 bytes and more the C library may leave its vector code for the processor's own string copy, which
+// took up to 1.4 times as long as a plain loop where what is written does not stand in the second-level cache.
+const PIECE: usize = 1984;
+
 // Bytes, put at the front of what is lent.
 pub fn put_bytes(out: &mut [u8], bytes: &[u8])
     requires { length bytes.now ≤ length out.old }
     ensures { out.new ≡ over out.old bytes.now }
 {
-    out[..bytes.len()].copy_from_slice(bytes);
+    let n = bytes.len();
+    if n < PIECE {
+        out[..n].copy_from_slice(bytes);
+        return;
+    }
+    let pieces = n / PIECE;
+    for i in 0..pieces {
+        let at = i * PIECE;
+        out[at..at + PIECE].copy_from_slice(&bytes[at..at + PIECE]);
+    }
+    let at = pieces * PIECE;
+    out[at..n].copy_from_slice(&bytes[at..n]);
 }

@@ -4,8 +4,14 @@ use Prim.Native.Nat.{◌+◌, ◌-◌}
 use native.Mathlib.Omega.{arith}
 use lib.ListN.{get_or, drop, set}
 use lib.Seq.{paste}
-use Rattle.moves_model.proofs.Shifted.{closing, closed}
+use Rattle.moves_model.proofs.Shifted.{closing, closed, none_gone}
 use Rattle.moves.proofs.close.Goals as goal
+
+pub returns-then-k-eq0 : goal.returns-then-k-eq0
+returns-then-k-eq0 g c =
+    let a = c.args in
+    let none : a.k ≡ 0 = omega (arith, c.if-k-eq0.true) in
+    rw none (none_gone a.pool.now a.total a.at c.requires.total_in_bounds)
 
 pub loop-i-preserved : goal.loop-i-preserved
 loop-i-preserved g c =
