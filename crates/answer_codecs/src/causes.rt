@@ -3,7 +3,7 @@ use answer_text::answer::Answer;
 use answer_text::fault::Fault;
 use answer_text::operands::{CAUSES, Operands, lent};
 use answer_text::rooms::Rooms;
-use answer_text::shown::Numbers;
+use answer_text::shown::Unsigned;
 use std::io::Write;
 
 pub fn answer<W: Write>(
@@ -28,9 +28,9 @@ pub fn answer<W: Write>(
         chunk_abort::unmarshal(raw, codes, depths, starts, sizes)
     };
     let answer = told.map_or_else(Answer::Refused, Answer::Causes);
-    write!(out, "{answer} codes{}", Numbers(codes))?;
-    write!(out, " depths{}", Numbers(depths))?;
-    write!(out, " starts{}", Numbers(starts))?;
-    write!(out, " sizes{}", Numbers(sizes))?;
+    write!(out, "{answer} codes{}", Unsigned(codes))?;
+    write!(out, " depths{}", Unsigned(depths))?;
+    write!(out, " starts{}", Unsigned(starts))?;
+    write!(out, " sizes{}", Unsigned(sizes))?;
     Ok(())
 }

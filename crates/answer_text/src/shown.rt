@@ -26,17 +26,30 @@ impl<'a> fmt::Display for Bytes<'a> {
     }
 }
 
-// Each number behind a space.
+// Each behind a space, as it shows itself.
 #[derive(Clone, Copy)]
 pub struct Numbers<'a, T>(pub &'a [T]);
 
-// So many numbers are spelt at once. Each by itself takes three times as long.
+impl<'a, T: fmt::Display> fmt::Display for Numbers<'a, T> {
+    fn fmt<W: fmt::Write>(&self, f: &mut fmt::Formatter<W>) -> fmt::Result {
+        for n in self.0 {
+            write!(f, " {n}")?;
+        }
+        Ok(())
+    }
+}
+
+// Each behind a space, as the number without a sign, of at most 64 bits, that it turns into.
+#[derive(Clone, Copy)]
+pub struct Unsigned<'a, T>(pub &'a [T]);
+
+// So many of these are spelt at once. Each by itself, as `Numbers` does, takes three times as long.
 const NUMBERS_AT_ONCE: usize = 32;
 
 // The longest number has 20 digits, and a space in front.
 const ROOM: usize = 21 * NUMBERS_AT_ONCE;
 
-impl<'a, T: Copy + Into<u64>> fmt::Display for Numbers<'a, T> {
+impl<'a, T: Copy + Into<u64>> fmt::Display for Unsigned<'a, T> {
     fn fmt<W: fmt::Write>(&self, f: &mut fmt::Formatter<W>) -> fmt::Result {
         let mut room = [0u8; ROOM];
         for part in self.0.chunks(NUMBERS_AT_ONCE) {
@@ -118,4 +131,54 @@ fn letters<W: fmt::Write>(f: &mut fmt::Formatter<W>, all: &[(&str, bool)]) -> fm
         }
     }
     Ok(())
+}
+
+#[cfg(test)]
+mod tests {
+    use super::*;
+    use std::alloc::AllocError;
+
+    #[test]
+    fn each_behind_a_space(rt: HostRuntime) -> Result<(), AllocError> {
+        let alloc = rt.alloc();
+        let none: [bool; 0] = [];
+        let flags = [true, false];
+        let words = ["one", "two"];
+        let signed = [i32::MIN, -1, 0, 17];
+        let shown = [
+            (format!(in alloc; "{}", Numbers(&none))?, ""),
+            (format!(in alloc; "{}", Numbers(&flags))?, " true false"),
+            (format!(in alloc; "{}", Numbers(&words))?, " one two"),
+            (
+                format!(in alloc; "{}", Numbers(&signed))?,
+                " -2147483648 -1 0 17",
+            ),
+        ];
+        for (text, want) in &shown {
+            assert_eq!(rt; text.as_str(), *want);
+        }
+        let many = format!(in alloc; "{}", Numbers(&[-1i32; 100]))?;
+        assert_eq!(rt; many.len(), 300);
+        Ok(())
+    }
+
+    #[test]
+    fn unsigned_as_each_shows_itself(rt: HostRuntime) -> Result<(), AllocError> {
+        let alloc = rt.alloc();
+        for (first, n) in [
+            (0, 0),
+            (9, 1),
+            (90, 31),
+            (990, 32),
+            (0, 100),
+            (u64::MAX - 33, 33),
+        ] {
+            let list: Vec<u64> = (first..first + n).collect(alloc)?;
+            let list = list.as_slice();
+            let each = format!(in alloc; "{}", Numbers(list))?;
+            let at_once = format!(in alloc; "{}", Unsigned(list))?;
+            assert_eq!(rt; at_once.as_str(), each.as_str(), "at {first}");
+        }
+        Ok(())
+    }
 }

@@ -5,7 +5,7 @@ use answer_text::digest;
 use answer_text::fault::{Fault, Malformed};
 use answer_text::operands::{NUMBERS, Operands, lent};
 use answer_text::rooms::Rooms;
-use answer_text::shown::Numbers;
+use answer_text::shown::Unsigned;
 use payload_queue::{LOG, PayloadQueue, Queued, TSNS, WORDS};
 use refusal::Refusal;
 use std::io;
@@ -100,9 +100,9 @@ impl Tsns {
         match self.queue.pop_duplicates(&self.table) {
             Ok(log) => {
                 let tsns = log.tsns;
-                write!(out, "log {}{}", log.count, Numbers(&tsns))
+                write!(out, "log {}{}", log.count, Unsigned(&tsns))
             }
-            Err(refusal) => write!(out, "{refusal}{}", Numbers(&[0u32; LOG])),
+            Err(refusal) => write!(out, "{refusal}{}", Unsigned(&[0u32; LOG])),
         }
     }
 
@@ -123,8 +123,8 @@ impl Tsns {
             .queue
             .get_gap_ack_blocks(&self.table, cumulative, starts, ends);
         let answer = told.map_or_else(Answer::Refused, Answer::Blocks);
-        write!(out, "{answer} starts{}", Numbers(starts))?;
-        write!(out, " ends{}", Numbers(ends))?;
+        write!(out, "{answer} starts{}", Unsigned(starts))?;
+        write!(out, " ends{}", Unsigned(ends))?;
         Ok(())
     }
 
